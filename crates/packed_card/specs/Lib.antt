@@ -1,0 +1,3 @@
+pub mod Directories
+pub mod Packed
+pub mod Small

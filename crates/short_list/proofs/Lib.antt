@@ -1,0 +1,2 @@
+pub mod Lemmas
+pub mod Lawful

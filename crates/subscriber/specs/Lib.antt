@@ -1,0 +1,4 @@
+pub mod Codes
+pub mod Identities
+pub mod Needed
+pub mod Subscribers
