@@ -1,0 +1,4 @@
+pub mod Classes
+pub mod Facts
+pub mod Keys
+pub mod Preferred
