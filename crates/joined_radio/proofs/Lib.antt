@@ -1,0 +1,3 @@
+mod Joints
+mod Lawful
+mod Tried

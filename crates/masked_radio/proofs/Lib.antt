@@ -1,0 +1,4 @@
+mod Among
+mod Kept
+mod Lawful
+mod Mapped

@@ -1,0 +1,3 @@
+pub mod Changes
+mod Lawful
+pub mod Places

@@ -1,0 +1,3 @@
+pub mod Airs
+pub mod Laws
+pub mod Skies

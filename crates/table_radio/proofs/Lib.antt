@@ -1,0 +1,4 @@
+mod Cells
+mod Codes
+mod Skies
+mod Stands
