@@ -1,0 +1,4 @@
+pub mod Accepted
+pub mod Cards
+pub mod Kept
+pub mod Lists
