@@ -1,11 +1,7 @@
 use super::board::Board;
-use super::board::file_numbers;
-use super::playing::Style;
 use super::printing::push_outcome;
 use super::printing::push_places;
 use super::printing::push_state;
-use answers::describe_card;
-use answers::push_card;
 use answers::push_refusal;
 use packed_card::PackedCardCard;
 use selector::Mode;
@@ -28,7 +24,7 @@ fn push_head(
     out.push_str(head.as_str())
 }
 
-/// A run, and what it answers.
+/// A run, and what it answers; whether it was carried out.
 fn run_onto(
     heap: Global,
     out: &mut String,
@@ -36,17 +32,22 @@ fn run_onto(
     on: &mut On,
     draw: u64,
     trail: &mut [u8],
-) -> Result<(), AllocError> {
+) -> Result<bool, AllocError> {
     match on.run(&mut board.radio, &mut board.card, draw, trail) {
         Ok(answer) => {
             push_state(heap, out, answer.state)?;
             out.push_str("; tried")?;
-            push_places(heap, out, trail, answer.tries)
+            push_places(heap, out, trail, answer.tries)?;
+            Ok(true)
         }
-        Err(refusal) => push_refusal(heap, out, refusal),
+        Err(refusal) => {
+            push_refusal(heap, out, refusal)?;
+            Ok(false)
+        }
     }
 }
 
+/// A run on a trail of this room; whether it was carried out.
 pub(crate) fn play_run(
     heap: Global,
     out: &mut String,
@@ -54,12 +55,13 @@ pub(crate) fn play_run(
     on: &mut On,
     draw: u64,
     room: Option<u8>,
-) -> Result<(), AllocError> {
+) -> Result<bool, AllocError> {
     push_head(heap, out, draw, room)?;
     let mut trail = [0u8; 255];
     let size = room.unwrap_or(20) as usize;
-    run_onto(heap, out, board, on, draw, &mut trail[0..size])?;
-    out.push_str("\n")
+    let done = run_onto(heap, out, board, on, draw, &mut trail[0..size])?;
+    out.push_str("\n")?;
+    Ok(done)
 }
 
 pub(crate) fn play_look(
@@ -116,17 +118,4 @@ pub(crate) fn play_marks(heap: Global, out: &mut String, board: &Board) -> Resul
     out.push_str("marks:")?;
     push_places(heap, out, places.as_slice(), places.as_slice().len())?;
     out.push_str("\n")
-}
-
-pub(crate) fn play_card(
-    heap: Global,
-    out: &mut String,
-    board: &mut Board,
-    style: Style,
-) -> Result<(), AllocError> {
-    let numbers = file_numbers(heap, &board.card)?;
-    match style {
-        Style::Plain => push_card(heap, out, &mut board.card, numbers.as_slice()),
-        Style::Words => describe_card(heap, out, &mut board.card, numbers.as_slice()),
-    }
 }

@@ -1,11 +1,14 @@
 use super::board::Board;
-use super::calls::play_card;
 use super::calls::play_look;
 use super::calls::play_marks;
 use super::calls::play_mode;
 use super::calls::play_pick;
 use super::calls::play_run;
+use super::files::push_files_now;
 use super::table::table_of;
+use super::wording::describe_files_now;
+use super::wording::describe_run;
+use super::wording::describe_sky;
 use answers::push_settings;
 use packed_card::PackedCard;
 use plmn::Settings;
@@ -36,10 +39,23 @@ fn play_call(
 ) -> Result<On, AllocError> {
     let mut on = on;
     match call {
-        Call::Card => play_card(heap, out, board, style)?,
+        Call::Card => match style {
+            Style::Plain => push_files_now(heap, out, &mut board.card)?,
+            Style::Words => describe_files_now(heap, out, board)?,
+        },
         Call::Marks => play_marks(heap, out, board)?,
-        Call::Run(draw, room) => play_run(heap, out, board, &mut on, draw, room)?,
-        Call::Look => play_look(heap, out, board, &on)?,
+        Call::Run(draw, room) => match style {
+            Style::Plain => {
+                play_run(heap, out, board, &mut on, draw, room)?;
+            }
+            Style::Words => describe_run(heap, out, board, &mut on, draw, room)?,
+        },
+        Call::Look => {
+            play_look(heap, out, board, &on)?;
+            if let Style::Words = style {
+                describe_sky(heap, out, board)?;
+            }
+        }
         Call::Pick(place) => play_pick(heap, out, board, &mut on, place)?,
         Call::Mode => play_mode(out, &mut on)?,
         Call::Restart => {
@@ -81,7 +97,11 @@ pub fn play(heap: Global, scenario: &mut Scenario, style: Style) -> Result<Strin
     let table = table_of(heap, scenario)?;
     let radio = TableRadio::new(table.as_slice());
     let card = PackedCard::new(scenario.image.as_mut_slice(), scenario.directory.as_slice());
-    let mut board = Board { radio, card };
+    let mut board = Board {
+        radio,
+        card,
+        supported,
+    };
     play_calls(
         heap,
         &mut out,

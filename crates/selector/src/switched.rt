@@ -1,6 +1,7 @@
 ghost use mathlib.Core.Path.{_≡_};
 ghost use Rattle.selector.specs.Views.{standing, resting};
 ghost use Rattle.selector.specs.Standings.{fresh, switchedOn, switchedOff, turned};
+ghost use Rattle.subscriber.specs.Codes.{codesIn};
 use super::state::Mode;
 use super::state::State;
 use plmn::Area;
@@ -88,6 +89,13 @@ impl On {
         ensures { λ r. ⌜ r ≡ standing (now (self .entry)) .state ⌝ }
     {
         self.state
+    }
+
+    /// The codes equivalent to that of the last registration.
+    pub fn equivalents(&self) -> CodeList
+        ensures { λ r. ⌜ codesIn r ≡ standing (now (self .entry)) .equivalents ⌝ }
+    {
+        self.equivalents
     }
 
     /// Turns to the other mode and answers the earlier one.
