@@ -17,9 +17,9 @@ use Rattle.selector.specs.declared.state.State.the-variants.{NoService, Registe
 abbrev pub TriesThoseOpen : Type 0
 TriesThoseOpen = (s : Standing) (fs : Files) (a : Air) (draw : ℕ) → Tries (barred (s .roaming) (s .regional)) (heardSky (sought a .here)) [] (runOrder s fs (sought a) draw) (runPlaces s fs a draw)
 
--- a run ends without service exactly when no row that it found was allowed
-abbrev pub NoServiceIfNoneAllowed : Type 0
-NoServiceIfNoneAllowed = (s : Standing) (fs : Files) (a : Air) (draw : ℕ) →
+-- a run ends without service exactly when its order has no turn
+abbrev pub NoServiceIfOrderEmpty : Type 0
+NoServiceIfOrderEmpty = (s : Standing) (fs : Files) (a : Air) (draw : ℕ) →
     ((runStanding s fs a draw .state ≡ NoService) → runOrder s fs (sought a) draw ≡ []) × ((runOrder s fs (sought a) draw ≡ []) → runStanding s fs a draw .state ≡ NoService)
 
 -- a place is the last of a trail

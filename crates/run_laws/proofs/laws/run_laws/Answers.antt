@@ -13,5 +13,5 @@ returns c = record {
     registered-by (barred (s .roaming) (s .regional)) (heardSky (sought a .here)) (sought a) (runOrder s fs (sought a) draw),
     registers (barred (s .roaming) (s .regional)) (heardSky (sought a .here)) (sought a) (runOrder s fs (sought a) draw),
   );
-  no-service-if-none-allowed = λ s fs a draw. (no-turn s (sought a) (runOrder s fs (sought a) draw), no-service s (sought a) (runOrder s fs (sought a) draw));
+  no-service-if-order-empty = λ s fs a draw. (no-turn s (sought a) (runOrder s fs (sought a) draw), no-service s (sought a) (runOrder s fs (sought a) draw));
 }
