@@ -1,9 +1,10 @@
 ghost use mathlib.Core.Path.{_≡_};
 ghost use Prim.Native.Nat.{_+_, _≤_};
+ghost use lib.ListN.{length as size};
 ghost use denote.Ref.{now as held, name};
 ghost use Rattle.std.specs.Options.{Cases as BySome};
 ghost use Rattle.card.specs.Files.{lengthOf, sizeOf, byteOf, updateAnswer, written};
-ghost use Rattle.packed_card.specs.Directories.{found as foundIn, fileAt};
+ghost use Rattle.packed_card.specs.Directories.{goods as goodsOf, found as foundIn, fileAt};
 ghost use Rattle.packed_card.specs.Packed.{listed as listedIn, kept as keptIn, packedFiles, filesIn};
 ghost use Rattle.packed_card.specs.Small.{packed-small};
 use super::building::good_entries;
@@ -95,7 +96,8 @@ fn update_in(
 
 /// The good entries of a directory over this image.
 fn judged(image: &[u8], directory: &[Entry]) -> GoodEntries
-    ensures { λ r. ⌜ filesIn (now (image .entry)) (listedIn r) ≡ packedFiles (now (image .entry)) (now (directory .entry)) ⌝ }
+    ensures listed { λ r. ⌜ listedIn r ≡ goodsOf (size (now (image .entry))) (now (directory .entry)) ⌝ }
+    ensures files { λ r. ⌜ filesIn (now (image .entry)) (listedIn r) ≡ packedFiles (now (image .entry)) (now (directory .entry)) ⌝ }
 {
     good_entries(directory, image.len())
 }
@@ -111,6 +113,7 @@ impl<'a> PackedCard<'a> {
     /// The card with exactly the good files of this directory. Any directory does: what is not good is no file.
     pub fn new(image: &'a mut [u8], directory: &[Entry]) -> PackedCard<'a>
         ensures files { λ r. ⌜ filesIn (now (r .image)) (listedIn (r .good)) ≡ packedFiles (now (image .entry)) (now (directory .entry)) ⌝ }
+        ensures listed { λ r. ⌜ listedIn (r .good) ≡ goodsOf (size (now (image .entry))) (now (directory .entry)) ⌝ }
         ensures image { λ r. ⌜ now (r .image) ≡ now (image .entry) ⌝ }
         ensures lent { λ r. ⌜ name (r .image) ≡ name (image .entry) ⌝ }
     {
