@@ -1,4 +1,7 @@
 //! Calls played on two selectors over any two makes of radio and card, and what they have in common: the theorem.
+
+#![tactic(auto)]
+
 mod both;
 mod call;
 mod playing;

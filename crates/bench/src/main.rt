@@ -1,5 +1,8 @@
 //! Plays a scenario: `bench [--words] [FILE]`, from standard input where no file is named. It ends with status 1, and a line on
 //! standard error, where the scenario cannot be read.
+
+#![tactic(auto)]
+
 use play::{Style, play};
 use scenario::read;
 use std::fmt::Display;

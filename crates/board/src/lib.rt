@@ -1,4 +1,7 @@
 //! The board that a scenario describes: its card, and a table radio with its skies. The table is tested; the numbers of the card's files are proved.
+
+#![tactic(auto)]
+
 mod board;
 mod table;
 

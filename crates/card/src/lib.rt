@@ -1,4 +1,7 @@
 //! What a card means, the bare card, and files taken whole from any card.
+
+#![tactic(auto)]
+
 mod bare;
 mod cards;
 mod image;

@@ -1,4 +1,7 @@
 //! Reads hand-made cards and prints what is read, to be compared with values that were worked out by hand.
+
+#![tactic(auto)]
+
 use card::{BareCard, Card, EF_PLMN_W_ACT, take_file};
 use counting_card::CountingCard;
 use entry_list::{EntryKind, EntryList, FullEntry};

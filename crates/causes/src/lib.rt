@@ -1,4 +1,7 @@
 //! What a network's answer to a registration means: causes, the end of a run, and rows that are closed.
+
+#![tactic(auto)]
+
 mod cause;
 mod heard;
 

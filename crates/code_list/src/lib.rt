@@ -1,4 +1,7 @@
 //! Lists of codes: up to eighty, in order, and those gathered from the lists of a card.
+
+#![tactic(auto)]
+
 mod codes;
 mod gathering;
 

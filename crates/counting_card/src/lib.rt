@@ -1,4 +1,7 @@
 //! A card that counts the questions it is asked, to measure what a call costs on a slow card.
+
+#![tactic(auto)]
+
 ghost use Rattle.std.specs.Prelude.{◌≡◌, ◌≤◌, max, replicate, IfSome, fold};
 ghost use Rattle.counting_card.specs.Counts.{slot_of, noted};
 

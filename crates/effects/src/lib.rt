@@ -1,4 +1,7 @@
 //! What the answers of tried networks do to the lists, the card and the equivalent codes.
+
+#![tactic(auto)]
+
 mod equivalents;
 mod lists;
 mod location;

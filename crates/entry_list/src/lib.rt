@@ -1,4 +1,7 @@
 //! The lists of codes on a card: entry kinds, and the one reading that serves every kind.
+
+#![tactic(auto)]
+
 mod kind;
 mod laws;
 mod list;

@@ -1,4 +1,7 @@
 //! Plays the scenarios of `examples/` that are named on the command line, one after the other. `data/` holds the same files.
+
+#![tactic(auto)]
+
 use play::{Style, play};
 use scenario::read;
 use std::fmt::Display;

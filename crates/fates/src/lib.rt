@@ -1,4 +1,7 @@
 //! Why a row is not tried in a run.
+
+#![tactic(auto)]
+
 mod judging;
 mod reason;
 

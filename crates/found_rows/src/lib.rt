@@ -1,4 +1,7 @@
 //! The rows of the sky now, taken from a radio once.
+
+#![tactic(auto)]
+
 mod rows;
 mod taking;
 

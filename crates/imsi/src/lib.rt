@@ -1,4 +1,7 @@
 //! The codes that bytes of the card hold: the IMSI code and the registered code.
+
+#![tactic(auto)]
+
 ghost use Rattle.std.specs.Prelude.{◌≡◌};
 ghost use Rattle.std.specs.Option.{ok_or};
 ghost use Rattle.refusal.specs.declared.Refusal.TheVariants.{HomeDigits as BadHomeDigits};

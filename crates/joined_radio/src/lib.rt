@@ -1,4 +1,7 @@
 //! Two radios as one: the rows of the first, and then the rows of the second.
+
+#![tactic(auto)]
+
 mod finder;
 mod joined;
 mod laws;

@@ -1,4 +1,7 @@
 //! Which rows a set of technologies lets through, and where they stand in the radio below.
+
+#![tactic(auto)]
+
 mod asks;
 mod places;
 

@@ -1,4 +1,7 @@
 //! A radio seen through a set of technologies: rows of other technologies are hidden.
+
+#![tactic(auto)]
+
 mod finder;
 mod laws;
 mod masked;

@@ -1,4 +1,7 @@
 //! Networks, technologies and files by the names that people use. The names of technologies are proved; the others are tested.
+
+#![tactic(auto)]
+
 mod files;
 mod network;
 mod technology;

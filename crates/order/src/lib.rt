@@ -1,4 +1,7 @@
 //! In which order the rows that may be tried take their turns.
+
+#![tactic(auto)]
+
 mod ordering;
 
 pub use ordering::order_rows;

@@ -1,4 +1,7 @@
 //! A card image: bytes that are handed over, and a directory that says which of them are which file.
+
+#![tactic(auto)]
+
 mod building;
 mod entry;
 mod good;

@@ -1,4 +1,7 @@
 //! States, refusals, rows, classes, answers and reasons in words for a person. The words are tested, and not proved.
+
+#![tactic(auto)]
+
 mod answer;
 mod class;
 mod reason;

@@ -1,4 +1,7 @@
 //! Calls carried out on a board and printed for a tool: every byte of the text, and all that the calls leave, for any radio and card.
+
+#![tactic(auto)]
+
 mod calls;
 mod lines;
 mod marks;

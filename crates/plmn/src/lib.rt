@@ -1,4 +1,7 @@
 //! Network codes, technologies, areas, found rows and the settings of a selector.
+
+#![tactic(auto)]
+
 mod area;
 mod code;
 mod row;

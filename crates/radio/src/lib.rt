@@ -1,4 +1,7 @@
 //! What a radio means: a finder shows the rows of a sky, and a registrar can also try them.
+
+#![tactic(auto)]
+
 mod answer;
 mod finder;
 mod laws;

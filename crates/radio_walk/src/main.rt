@@ -1,4 +1,7 @@
 //! Walks radios over tables that are written down here, and prints each sky, each answer and each refusal.
+
+#![tactic(auto)]
+
 mod tables;
 mod walks;
 

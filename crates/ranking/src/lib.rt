@@ -1,4 +1,7 @@
 //! The order of keys: which of two rows comes first, the draw, and the whole order.
+
+#![tactic(auto)]
+
 mod draw;
 mod insertion;
 mod key;

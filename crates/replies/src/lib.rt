@@ -1,4 +1,7 @@
 //! What the calls of a selector print, byte for byte.
+
+#![tactic(auto)]
+
 mod numbers;
 mod printing;
 mod states_text;

@@ -1,4 +1,7 @@
 //! Which found rows may be tried, and the class of each.
+
+#![tactic(auto)]
+
 mod allowed;
 mod class;
 mod classify;

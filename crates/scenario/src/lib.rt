@@ -1,4 +1,7 @@
 //! The scenario language: a text is read into a scenario. What happens where memory fails is only tested.
+
+#![tactic(auto)]
+
 mod building;
 mod reading;
 mod scenarios;

@@ -1,4 +1,7 @@
 //! The selector: off or on, its states, and its calls.
+
+#![tactic(auto)]
+
 mod calls;
 mod conclude;
 mod run;

@@ -1,4 +1,7 @@
 //! A short list: a few places in memory that the caller lends, each empty or holding one element.
+
+#![tactic(auto)]
+
 mod element;
 mod laws;
 mod list;

@@ -1,4 +1,7 @@
 //! The statements of the scenario language: what a line says, or why it cannot be read. What a reason prints is only tested.
+
+#![tactic(auto)]
+
 mod arguments;
 mod fault;
 mod parsing;

@@ -1,4 +1,7 @@
 //! The states of a selector, what changes them, and the checks that depend on them.
+
+#![tactic(auto)]
+
 mod checks;
 mod state;
 

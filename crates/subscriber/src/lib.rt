@@ -1,4 +1,7 @@
 //! What the card says of its subscriber: the needed files, the home codes, the registered code and the lists.
+
+#![tactic(auto)]
+
 mod identity;
 mod needed;
 mod reading;

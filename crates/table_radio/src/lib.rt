@@ -1,4 +1,7 @@
 //! A radio over a table in memory that the caller lends: each block of twenty rows is a sky.
+
+#![tactic(auto)]
+
 mod laws;
 mod marks;
 mod radios;

@@ -1,4 +1,7 @@
 //! The rows of a table in memory: which of them a sky shows, and what their networks answer.
+
+#![tactic(auto)]
+
 mod blocks;
 mod replies;
 mod row;

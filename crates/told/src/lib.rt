@@ -1,4 +1,7 @@
 //! Calls carried out on a board and told to a person. What is told is tested.
+
+#![tactic(auto)]
+
 mod calls;
 mod runs;
 mod sky;

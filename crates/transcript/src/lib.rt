@@ -1,4 +1,7 @@
 //! A recorder that writes down what the calls answer, one line for each.
+
+#![tactic(auto)]
+
 mod lines;
 mod recording;
 

@@ -1,4 +1,7 @@
 //! The tries of a run: the rows that are open at their turn, in order, until one ends the run.
+
+#![tactic(auto)]
+
 mod laws;
 mod walk;
 

@@ -1,5 +1,8 @@
 //! The same calls on two boards of different makes: a bare card and a table radio; a packed card with the same files, and a masked
 //! radio joined with one that hears nothing. It makes the call whose contract is the theorem, and prints what each recorder heard.
+
+#![tactic(auto)]
+
 mod air;
 mod cards;
 

@@ -1,4 +1,7 @@
 //! Text by lines and words, and the numbers that words write. Nothing here is only tested.
+
+#![tactic(auto)]
+
 mod digits;
 mod lines;
 mod runs;

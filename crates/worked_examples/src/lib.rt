@@ -1,4 +1,7 @@
 //! The worked examples of the rules: proved from the definitions as one fact, and run as tests on the program.
+
+#![tactic(auto)]
+
 ghost use Rattle.worked_examples.specs.Examples.{Examples};
 
 /// The worked examples follow from the definitions.
