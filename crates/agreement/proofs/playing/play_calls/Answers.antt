@@ -20,18 +20,18 @@ loop-i-preserved g c =
     let i : ℕ = c.loop-i.i in
     let w : World = world (standing c.loop-i.on) (g.R.Registrar.air c.loop-i.radio) (g.C.Card.files c.loop-i.card) in
     let more : i < length calls = c.loop-i-test.true in
-    let n : ℕ = min c.room-at.result (length c.loop-i.trail) in
+    let n : ℕ = min c.room_at.result (length c.loop-i.trail) in
     let lent : next (drop i ns) ≡ n =
     next_length c.args.rooms.now c.args.trail.now i
-    ∙ (ap (λ (k : ℕ). min k (length c.args.trail.now)) (sym c.room-at.ensures) ∙ ap (λ (k : ℕ). min c.room-at.result k) (sym c.loop-i.invariant.3)) in (
+    ∙ (ap (λ (k : ℕ). min k (length c.args.trail.now)) (sym c.room_at.ensures) ∙ ap (λ (k : ℕ). min c.room_at.result k) (sym c.loop-i.invariant.3)) in (
       (λ s h. let q = c.loop-i.invariant.0 s h in (
         _,
-        c.serve-and-tell-on.ensures.told q.0 q.1,
-        step_heard calls ns i _ n w _ more lent c.serve-and-tell-on.ensures.left q.0 ∙ q.2,
+        c.serve_and_tell-on.ensures.told q.0 q.1,
+        step_heard calls ns i _ n w _ more lent c.serve_and_tell-on.ensures.left q.0 ∙ q.2,
       )),
-      sym (step_finally calls ns i _ n w _ more lent c.serve-and-tell-on.ensures.left) ∙ c.loop-i.invariant.1,
-      step_trail calls ns i _ n w _ more lent c.serve-and-tell-on.ensures.left c.loop-i.trail c.serve-and-tell-on.new.trail c.serve-and-tell-on.ensures.trail ∙ c.loop-i.invariant.2,
-      c.serve-and-tell-on.auto.trail ∙ c.loop-i.invariant.3,
+      sym (step_finally calls ns i _ n w _ more lent c.serve_and_tell-on.ensures.left) ∙ c.loop-i.invariant.1,
+      step_trail calls ns i _ n w _ more lent c.serve_and_tell-on.ensures.left c.loop-i.trail c.serve_and_tell-on.new.trail c.serve_and_tell-on.ensures.trail ∙ c.loop-i.invariant.2,
+      c.serve_and_tell-on.auto.trail ∙ c.loop-i.invariant.3,
     )
 
 pub returns : goal.returns
@@ -43,7 +43,7 @@ returns g c =
     let fs : Files = g.C.Card.files c.args.card.now in
     let w : World = world (standing c.loop-i.on) (g.R.Registrar.air c.loop-i.radio) (g.C.Card.files c.loop-i.card) in
     let done : length calls ≤ i = c.loop-i-test.false in
-    let start : standing c.switch-on-on.result ≡ switched_on (fresh c.args.settings.supported.bits) = c.switch-on-on.ensures ∙ ap switched_on c.new.ensures in
+    let start : standing c.switch_on-on.result ≡ switched_on (fresh c.args.settings.supported.bits) = c.switch_on-on.ensures ∙ ap switched_on c.new.ensures in
     let end : w ≡ finally calls ns (started c.args.settings.supported.bits a fs) =
     sym (at_drop_all (λ (cs : List Call). finally cs (drop i ns) w) calls i done) ∙ (c.loop-i.invariant.1 ∙ ap (λ (s : Standing). finally calls ns (world s a fs)) start) in
     record {
@@ -54,8 +54,8 @@ returns g c =
           q.1;
       trail = sym (at_drop_all (λ (cs : List Call). overwritten (history cs (drop i ns) w) c.loop-i.trail) calls i done)
           ∙ (c.loop-i.invariant.2 ∙ ap (λ (s : Standing). overwritten (history calls ns (world s a fs)) c.args.trail.now) start);
-      left-by-the-rules = record {
-        selector = c.switch-off.ensures ∙ ap (λ (v : World). switched_off v.standing) end;
+      left_by_the_rules = record {
+        selector = c.switch_off.ensures ∙ ap (λ (v : World). switched_off v.standing) end;
         air = ap (λ (v : World). v.air) end;
         files = ap (λ (v : World). v.files) end;
       };

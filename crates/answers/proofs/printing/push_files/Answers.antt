@@ -9,8 +9,8 @@ loop-file-preserved g c =
     let files : Files = g.C.Card.files c.args.card.now in
     let numbers : List ℕ = c.args.numbers.now in
     let i : ℕ = c.loop-file.file-index in (
-      c.push-taken.ensures.same ∙ c.loop-file.invariant.0,
-      c.in-ok-push-taken.ensures.after
+      c.push_taken.ensures.same ∙ c.loop-file.invariant.0,
+      c.in_ok-push_taken.ensures.after
           ∙ ((λ k. c.loop-file.invariant.1 k ++ file_line (c.loop-file.invariant.0 k) (get_or numbers i 0)) ∙ pieces_more (file_line files) (string_bytes c.args.out.now) numbers i 0 (omega arith)),
     )
 

@@ -8,8 +8,8 @@ pub loop-i-preserved : goal.loop-i-preserved
 loop-i-preserved g c =
     let f : ℕ → ℕ = λ k. get_or (bytes_of (g.C.Card.files c.args.card.now c.args.file)) k 0 in
     let i : ℕ = c.loop-i.i in
-    let e : c.byte-or-zero.result ≡ f i = c.byte-or-zero.ensures.value ∙ ap (λ (fs : Files). get_or (bytes_of (fs c.args.file)) i 0) c.loop-i.invariant.0 in (
-      c.byte-or-zero.ensures.same ∙ c.loop-i.invariant.0,
+    let e : c.byte_or_zero.result ≡ f i = c.byte_or_zero.ensures.value ∙ ap (λ (fs : Files). get_or (bytes_of (fs c.args.file)) i 0) c.loop-i.invariant.0 in (
+      c.byte_or_zero.ensures.same ∙ c.loop-i.invariant.0,
       λ k h. subst (λ (v : ℕ). get_or (set c.loop-i.out i v) k 0 ≡ f k) (sym e) (fill_by_more f c.loop-i.out i 0 (search rules) c.loop-i.invariant.1 k h),
     )
 

@@ -7,7 +7,7 @@ use Rattle.effects.proofs.writing.fill_bytes.Goals as goal
 pub loop-i-preserved : goal.loop-i-preserved
 loop-i-preserved c =
     let room : 3 * length c.args.codes.now ≤ length c.loop-i.bytes = omega (arith, c.requires, c.loop-i.auto.bytes) in
-    one_code_more c.loop-i.bytes c.put-code.new.bytes c.args.codes.now c.loop-i.i _ c.loop-i-test.true room c.loop-i.invariant c.put-code.ensures
+    one_code_more c.loop-i.bytes c.put_code.new.bytes c.args.codes.now c.loop-i.i _ c.loop-i-test.true room c.loop-i.invariant c.put_code.ensures
 
 pub returns : goal.returns
 returns c =

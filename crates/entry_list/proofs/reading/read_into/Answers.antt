@@ -14,31 +14,31 @@ use Rattle.entry_list.proofs.reading.read_into.Goals as goal
 within : (i count size r : ℕ) (bs : List ℕ) → i < count → count ≡ length bs / size → r ≡ size → i * r + r ≤ length bs
 within i count size r bs lt e er = whole i (length bs) r (subst (λ (n : ℕ). i < n) (e ∙ ap (λ (k : ℕ). length bs / k) (sym er)) lt)
 
-pub overflow-mul-start : goal.overflow-mul-start
-overflow-mul-start g c =
-    let w = within c.loop-i.i c.args.count g.K.EntryKind.size c.entry-length-size.result c.args.bytes.now c.loop-i-test.true c.requires.whole c.entry-length-size.ensures in
+pub overflow_mul-start : goal.overflow_mul-start
+overflow_mul-start g c =
+    let w = within c.loop-i.i c.args.count g.K.EntryKind.size c.entry_length-size.result c.args.bytes.now c.loop-i-test.true c.requires.whole c.entry_length-size.ensures in
     omega arith
 
-pub overflow-add-start : goal.overflow-add-start
-overflow-add-start g c =
-    let w = within c.loop-i.i c.args.count g.K.EntryKind.size c.entry-length-size.result c.args.bytes.now c.loop-i-test.true c.requires.whole c.entry-length-size.ensures in
+pub overflow_add-start : goal.overflow_add-start
+overflow_add-start g c =
+    let w = within c.loop-i.i c.args.count g.K.EntryKind.size c.entry_length-size.result c.args.bytes.now c.loop-i-test.true c.requires.whole c.entry_length-size.ensures in
     omega arith
 
-pub slice-bounds-read-end : goal.slice-bounds-read-end
-slice-bounds-read-end g c =
-    let w = within c.loop-i.i c.args.count g.K.EntryKind.size c.entry-length-size.result c.args.bytes.now c.loop-i-test.true c.requires.whole c.entry-length-size.ensures in
+pub slice_bounds-read-end : goal.slice_bounds-read-end
+slice_bounds-read-end g c =
+    let w = within c.loop-i.i c.args.count g.K.EntryKind.size c.entry_length-size.result c.args.bytes.now c.loop-i-test.true c.requires.whole c.entry_length-size.ensures in
     omega arith
 
 pub loop-i-preserved : goal.loop-i-preserved
 loop-i-preserved g c =
     let bs : List ℕ = c.args.bytes.now in
     let i : ℕ = c.loop-i.i in
-    let r : ℕ = c.entry-length-size.result in
+    let r : ℕ = c.entry_length-size.result in
     let f : ℕ → Listed = λ k. g.K.EntryKind.meaning (entry_bytes g.K.EntryKind.size bs k) in
     let w : (i * r + r) - i * r ≡ r = omega arith in
     let e : c.read.result ≡ f i = c.read.ensures
     ∙ (ap (λ (n : ℕ). g.K.EntryKind.meaning (take n (drop (i * r) bs))) w
-    ∙ ap (λ (n : ℕ). g.K.EntryKind.meaning (take n (drop (i * n) bs))) c.entry-length-size.ensures) in
+    ∙ ap (λ (n : ℕ). g.K.EntryKind.meaning (take n (drop (i * n) bs))) c.entry_length-size.ensures) in
     let l : i < length c.loop-i.places = omega arith in
     λ k d h. subst (λ (v : Listed). get_or (set c.loop-i.places i v) k d ≡ f k) (sym e) (fill_by_more f c.loop-i.places i d l (λ m. c.loop-i.invariant m d) k h)
 

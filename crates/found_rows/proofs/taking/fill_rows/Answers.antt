@@ -11,9 +11,9 @@ loop-i-preserved g c =
     let a : Air = g.R.Registrar.air c.args.radio.now in
     let i : ℕ = c.loop-i.i in
     let f : ℕ → Row = λ k. (at (heard_sky a.here) k).row in
-    let e : c.row-at.result ≡ f i = c.row-at.ensures.value ∙ ap (λ (b : Air). (at (heard_sky b.here) i).row) c.loop-i.invariant.0 in
+    let e : c.row_at.result ≡ f i = c.row_at.ensures.value ∙ ap (λ (b : Air). (at (heard_sky b.here) i).row) c.loop-i.invariant.0 in
     let l : i < length c.loop-i.rows = omega arith in (
-      c.row-at.ensures.air ∙ c.loop-i.invariant.0,
+      c.row_at.ensures.air ∙ c.loop-i.invariant.0,
       λ k d h. subst (λ (v : Row). get_or (set c.loop-i.rows i v) k d ≡ f k) (sym e) (fill_by_more f c.loop-i.rows i d l (λ m. c.loop-i.invariant.1 m d) k h),
     )
 

@@ -12,7 +12,7 @@ loop-row-preserved c =
     let i : ℕ = c.loop-row.row-index in
     let few : i < 20 = omega (arith, c.loop-row-test.true, c.requires) in
     let m = one_more (facts_of c.args.preferences.now) c.args.home c.args.rows.now i _ (keys_in c.loop-row.keys) (keys_in c.push.new.self) c.loop-row-test.true few c.loop-row.invariant.0
-    (c.push.ensures ∙ ap (λ (k : Key). pushed k (keys_in c.loop-row.keys)) c.key-of.ensures) in
+    (c.push.ensures ∙ ap (λ (k : Key). pushed k (keys_in c.loop-row.keys)) c.key_of.ensures) in
     (m.0, m.1 ∙ c.loop-row.invariant.1)
 
 pub returns : goal.returns

@@ -5,8 +5,8 @@ use Rattle.packed_card.specs.declared.entry.Entry.{Entry}
 use Rattle.packed_card.proofs.Apart.{sound_push}
 use Rattle.packed_card.proofs.building.joined_by.Goals as goal
 
-pub invariant-of-result : goal.invariant-of-result
-invariant-of-result c =
+pub invariant_of-result : goal.invariant_of-result
+invariant_of-result c =
     let xs : List Entry = c.args.good.entries in
     let n : ℕ = c.args.good.count in
     let l : n < length xs = omega (arith, c.args.good.within.1, c.requires.room) in

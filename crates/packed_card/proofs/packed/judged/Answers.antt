@@ -4,6 +4,6 @@ use Rattle.packed_card.proofs.packed.judged.Goals as goal
 
 pub returns : goal.returns
 returns c = record {
-  listed = c.good-entries.ensures;
-  files = files_in_packed c.args.image.now (listed c.good-entries.result) c.args.directory.now c.good-entries.ensures;
+  listed = c.good_entries.ensures;
+  files = files_in_packed c.args.image.now (listed c.good_entries.result) c.args.directory.now c.good_entries.ensures;
 }

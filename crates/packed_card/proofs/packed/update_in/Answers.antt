@@ -12,14 +12,14 @@ returns-in-Some c =
     let s : ℕ = c.in-Some.e.start in
     let n : ℕ = c.in-Some.e.length in
     let xs : List ℕ = c.args.image.now in
-    let ys : List ℕ = c.write-in.new.target in
+    let ys : List ℕ = c.write_in.new.target in
     let bs : List ℕ = c.args.bytes.now in
     let good : List Entry = listed c.args.good.now in
     let w : (s + n) - s ≡ n = omega arith in
-    let ly : length ys ≡ n = c.write-in.auto.target ∙ (ap (λ (k : ℕ). length (take k (drop s xs))) w ∙ part_length c.in-Some.e xs c.in-Some.ensures.within) in
-    let is : ys ≡ patched c.args.start bs (take n (drop s xs)) = c.write-in.ensures.after ∙ ap (λ (k : ℕ). patched c.args.start bs (take k (drop s xs))) w in
+    let ly : length ys ≡ n = c.write_in.auto.target ∙ (ap (λ (k : ℕ). length (take k (drop s xs))) w ∙ part_length c.in-Some.e xs c.in-Some.ensures.within) in
+    let is : ys ≡ patched c.args.start bs (take n (drop s xs)) = c.write_in.ensures.after ∙ ap (λ (k : ℕ). patched c.args.start bs (take k (drop s xs))) w in
     record {
-      answer = c.write-in.ensures.answer
+      answer = c.write_in.ensures.answer
           ∙ (ap (λ (k : ℕ). patch_answer c.args.start bs (take k (drop s xs))) w
           ∙ ap (λ o. update_answer c.args.start bs (part xs o)) c.in-Some.ensures.value);
       after = subst (λ (k : ℕ). files_in (put_mid s k xs ys) good ≡ written c.args.file c.args.start bs (files_in xs good)) (sym w)

@@ -8,7 +8,7 @@ use Rattle.ranking.proofs.draw.draw_order.Goals as goal
 pub loop-t-preserved : goal.loop-t-preserved
 loop-t-preserved c =
     let h : c.loop-t.t < length c.loop-t.keys = omega arith in
-    turn c.loop-t.keys c.take-drawn-d.new.keys c.loop-t.t c.loop-t.d c.take-drawn-d.result (Drawn c.args.draw c.args.keys.now) h c.take-drawn-d.ensures.value c.take-drawn-d.ensures.after c.loop-t.invariant
+    turn c.loop-t.keys c.take_drawn-d.new.keys c.loop-t.t c.loop-t.d c.take_drawn-d.result (Drawn c.args.draw c.args.keys.now) h c.take_drawn-d.ensures.value c.take_drawn-d.ensures.after c.loop-t.invariant
 
 pub returns : goal.returns
 returns c =

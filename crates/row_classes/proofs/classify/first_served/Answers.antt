@@ -3,8 +3,8 @@ use Rattle.std.proofs.lemmas.List.{at_drop_more, at_drop_all}
 use Rattle.row_classes.specs.Classes.{served_home}
 use Rattle.row_classes.proofs.classify.first_served.Goals as goal
 
-pub returns-then-some-allowed : goal.returns-then-some-allowed
-returns-then-some-allowed c = search (rules, at_drop_more (served_home c.args.supported.bits c.args.forbidden.now c.args.rows.now))
+pub returns-then-some_allowed : goal.returns-then-some_allowed
+returns-then-some_allowed c = search (rules, at_drop_more (served_home c.args.supported.bits c.args.forbidden.now c.args.rows.now))
 
 pub loop-code-preserved : goal.loop-code-preserved
 loop-code-preserved c = search (rules, at_drop_more (served_home c.args.supported.bits c.args.forbidden.now c.args.rows.now))

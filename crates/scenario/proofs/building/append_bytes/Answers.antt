@@ -11,6 +11,6 @@ returns c =
     let line : List ℕ = c.args.line.now in
     let w : c.front-end.result - 0 ≡ prefix_len (of_run Uncommented) line = omega (arith, c.front-end.ensures.value) in
     record {
-      after = subst (λ (n : ℕ). Due (pairs_from (Ok (begun (vec_items c.args.image.now))) (take n line)) c.append-pairs.result (vec_items c.append-pairs.new.image)) w c.append-pairs.ensures.after;
-      grown = c.append-pairs.ensures.grown;
+      after = subst (λ (n : ℕ). Due (pairs_from (Ok (begun (vec_items c.args.image.now))) (take n line)) c.append_pairs.result (vec_items c.append_pairs.new.image)) w c.append_pairs.ensures.after;
+      grown = c.append_pairs.ensures.grown;
     }

@@ -13,4 +13,4 @@ returns-in-Some c =
     let rest : c.next-first.new.self.rest.now ≡ past_word line = c.next-first.ensures.after ∙ ap past_word c.of-words.ensures in
     let some : bare line ≡ false = ne_eqb (length (word_of line)) 0 (λ e. c.if-first-eq0.false (ap length first ∙ e)) in
     let k : keyword_of (word_of line) ≡ Some c.in-Some.word = ap keyword_of (sym first) ∙ sym c.in-Some.ensures in
-    subst (λ (due : Result Sentence Reason). Means due c.parse-rest.result) (ap (sentence_by c.in-Some.word) rest ∙ said line c.in-Some.word some k) c.parse-rest.ensures
+    subst (λ (due : Result Sentence Reason). Means due c.parse_rest.result) (ap (sentence_by c.in-Some.word) rest ∙ said line c.in-Some.word some k) c.parse_rest.ensures

@@ -4,17 +4,17 @@ use Rattle.causes.specs.Closing.{closed, closes}
 use Rattle.causes.specs.declared.heard.Heard.{Heard}
 use Rattle.tries.proofs.walk.is_closed.Goals as goal
 
-pub returns-then-closes-row : goal.returns-then-closes-row
-returns-then-closes-row c =
+pub returns-then-closes_row : goal.returns-then-closes_row
+returns-then-closes_row c =
     sym (c.loop-h.invariant
     ∙ at_drop_more (λ hs. closed hs c.args.row) c.args.done.now c.loop-h.h-index _ c.loop-h-test.true
-    ∙ ap (λ b. b || closed (drop (c.loop-h.h-index + 1) c.args.done.now) c.args.row) (sym c.if-closes-row.ensures))
+    ∙ ap (λ b. b || closed (drop (c.loop-h.h-index + 1) c.args.done.now) c.args.row) (sym c.if-closes_row.ensures))
 
 pub loop-h-preserved : goal.loop-h-preserved
 loop-h-preserved c =
     c.loop-h.invariant
     ∙ at_drop_more (λ hs. closed hs c.args.row) c.args.done.now c.loop-h.h-index _ c.loop-h-test.true
-    ∙ ap (λ b. b || closed (drop (c.loop-h.h-index + 1) c.args.done.now) c.args.row) (sym c.if-closes-row.ensures)
+    ∙ ap (λ b. b || closed (drop (c.loop-h.h-index + 1) c.args.done.now) c.args.row) (sym c.if-closes_row.ensures)
 
 pub returns : goal.returns
 returns c = sym (c.loop-h.invariant ∙ at_drop_all (λ hs. closed hs c.args.row) c.args.done.now c.loop-h.h-index c.loop-h-test.false)

@@ -10,8 +10,8 @@ returns c =
     let n : ℕ = c.front-length.result in
     let e : first_length text ≡ n = sym c.front-length.ensures.value in
     let w : n ≡ n - 0 = omega arith in
-    let rest : c.past-line.result.now ≡ drop (n + 1) text = c.past-line.ensures in
-    let tail : drop (first_length text + 1) text ≡ c.past-line.result.now = ap (λ (k : ℕ). drop (k + 1) text) e ∙ sym rest in
+    let rest : c.past_line.result.now ≡ drop (n + 1) text = c.past_line.ensures in
+    let tail : drop (first_length text + 1) text ≡ c.past_line.result.now = ap (λ (k : ℕ). drop (k + 1) text) e ∙ sym rest in
     record {
       lines = λ h. lines_more text h ∙ (λ i. take ((e ∙ w) i) text ∷ lines_of (tail i));
       small = λ h. omega (arith, ap length rest ∙ length-drop (n + 1) text, h);

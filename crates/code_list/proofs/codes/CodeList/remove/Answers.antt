@@ -3,8 +3,8 @@ use Rattle.short_list.specs.Places.{removed}
 use Rattle.code_list.proofs.Fronts.{still_sized, front_is}
 use Rattle.code_list.proofs.codes.CodeList.remove.Goals as goal
 
-pub invariant-of-self : goal.invariant-of-self
-invariant-of-self c = (c.args.self.now.within, (still_sized c.args.self.now c.remove-in.new.places c.remove-in.auto.places, tt))
+pub invariant_of-self : goal.invariant_of-self
+invariant_of-self c = (c.args.self.now.within, (still_sized c.args.self.now c.remove_in.new.places c.remove_in.auto.places, tt))
 
 pub returns : goal.returns
-returns c = front_is c.args.self.now c.remove-in.new.places c.remove-in.auto.places (removed same_code empty_code c.args.code) c.remove-in.ensures
+returns c = front_is c.args.self.now c.remove_in.new.places c.remove_in.auto.places (removed same_code empty_code c.args.code) c.remove_in.ensures

@@ -6,5 +6,5 @@ use Rattle.names.proofs.technology.TechnologyNameDisplay.fmt.Goals as goal
 
 pub returns-in-None-clause-writes : goal.returns-in-None-clause-writes
 returns-in-None-clause-writes g c =
-    let unknown = ap (λ (o : Option Technology). name_by o c.args.self.now.0) (sym c.in-None.is ∙ c.with-number.ensures) in
+    let unknown = ap (λ (o : Option Technology). name_by o c.args.self.now.0) (sym c.in-None.is ∙ c.with_number.ensures) in
     subst (λ (bs : List ℕ). WritesOnOk g.W.Write.write_str_gives c.args.f.now c.write.result bs c.write.new.self) unknown c.write.ensures.writes

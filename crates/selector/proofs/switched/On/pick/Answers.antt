@@ -17,20 +17,20 @@ returns g c =
     let fs : Files = g.C.Card.files c.args.card.now in
     let gs : Files = g.C.Card.files c.read.new.card in
     let a : Air = g.R.Registrar.air c.args.radio.now in
-    let b : Air = g.R.Registrar.air c.usable-row.new.radio in
+    let b : Air = g.R.Registrar.air c.usable_row.new.radio in
     let place : ℕ = c.args.place in
     let same : gs ≡ fs = c.read.ensures.same in
-    let still : b ≡ a = c.usable-row.ensures.air in
+    let still : b ≡ a = c.usable_row.ensures.air in
     let row : Option Refusal = row_refusal t.supported (slice_get a.here place) in
     let refusal : Option Refusal = pick_refusal t fs a.here place in
-    let there : row ≡ None = ap (λ (n : ℕ). row_refusal n (slice_get a.here place)) (sym c.supported.ensures) ∙ c.in-ok-row.ensures.answer.0 in
+    let there : row ≡ None = ap (λ (n : ℕ). row_refusal n (slice_get a.here place)) (sym c.supported.ensures) ∙ c.in_ok-row.ensures.answer.0 in
     let go : refusal ≡ None =
-    ap (λ (o : Option Refusal). first_of o (first_of (look_refusal t) row)) c.in-ok-identity.ensures.answer.accepted
-    ∙ (ap (λ (o : Option Refusal). first_of o row) c.in-ok-may-look.ensures ∙ there) in
+    ap (λ (o : Option Refusal). first_of o (first_of (look_refusal t) row)) c.in_ok-identity.ensures.answer.accepted
+    ∙ (ap (λ (o : Option Refusal). first_of o row) c.in_ok-may_look.ensures ∙ there) in
     let standing_is = ap (λ (f : Files). pick_standing t f b place) same ∙ ap (λ (x : Air). pick_standing t fs x place) still in
     record {
-      answer = ap (λ (x : State). Ok x) (c.pick-checked.ensures.value ∙ ap (λ (s : Standing). s.state) standing_is) ∙ sym (ap (λ (o : Option Refusal). answered o (pick_standing t fs a place).state) go);
-      after = c.pick-checked.ensures.after ∙ (standing_is ∙ sym (ap (λ (o : Option Refusal). unless o t (pick_standing t fs a place)) go));
-      files = c.pick-checked.ensures.files ∙ (ap (λ (f : Files). pick_files t f b place) same ∙ (ap (λ (x : Air). pick_files t fs x place) still ∙ sym (ap (λ (o : Option Refusal). unless o fs (pick_files t fs a place)) go)));
-      air = c.pick-checked.ensures.air ∙ (ap (λ (x : Air). pick_air x place) still ∙ sym (ap (λ (o : Option Refusal). unless o a (pick_air a place)) go));
+      answer = ap (λ (x : State). Ok x) (c.pick_checked.ensures.value ∙ ap (λ (s : Standing). s.state) standing_is) ∙ sym (ap (λ (o : Option Refusal). answered o (pick_standing t fs a place).state) go);
+      after = c.pick_checked.ensures.after ∙ (standing_is ∙ sym (ap (λ (o : Option Refusal). unless o t (pick_standing t fs a place)) go));
+      files = c.pick_checked.ensures.files ∙ (ap (λ (f : Files). pick_files t f b place) same ∙ (ap (λ (x : Air). pick_files t fs x place) still ∙ sym (ap (λ (o : Option Refusal). unless o fs (pick_files t fs a place)) go)));
+      air = c.pick_checked.ensures.air ∙ (ap (λ (x : Air). pick_air x place) still ∙ sym (ap (λ (o : Option Refusal). unless o a (pick_air a place)) go));
     }

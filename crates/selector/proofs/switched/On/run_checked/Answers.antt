@@ -21,28 +21,28 @@ returns g c =
     let t : Standing = standing c.args.self.now in
     let fs : Files = g.C.Card.files c.args.card.now in
     let a : Air = g.R.Registrar.air c.args.radio.now in
-    let b : Air = g.R.Registrar.air c.search-rows-rows.new.radio in
+    let b : Air = g.R.Registrar.air c.search_rows-rows.new.radio in
     let draw : ℕ = c.args.draw in
     let s : Subscriber = c.read-subscriber.result in
-    let ord : List Key = order_in c.order-rows-order.result in
-    let eb : b ≡ sought a = c.search-rows-rows.ensures.air in
+    let ord : List Key = order_in c.order_rows-order.result in
+    let eb : b ≡ sought a = c.search_rows-rows.ensures.air in
     let eh = home_is fs c.args.identity.now s c.requires.known c.read-subscriber.ensures.value in
     let ef = forbidden_is fs c.args.identity.now s c.requires.known c.read-subscriber.ensures.value in
     let facts = facts_are fs c.args.identity.now s c.requires.known c.read-subscriber.ensures.value t c.args.self.now.equivalents c.supported.result c.supported.ensures refl in
-    let rows : c.rows.result.now ≡ map row_in (sought a).here = c.rows.ensures ∙ c.search-rows-rows.ensures.value in
+    let rows : c.rows.result.now ≡ map row_in (sought a).here = c.rows.ensures ∙ c.search_rows-rows.ensures.value in
     let eo : ord ≡ run_order t fs (sought a) draw =
-    c.order-rows-order.ensures.value
+    c.order_rows-order.ensures.value
     ∙ (ap (λ (f : Facts). order_of f c.rows.result.now draw) facts ∙ ap (λ (rs : List Row). order_of (facts_in t fs) rs draw) rows) in
     let places = places_are t fs a b draw ord (codes_in s.home) (codes_in s.forbidden) eo eb eh ef in
-    let after : standing c.try-order-tries.new.self ≡ run_standing t fs a draw =
-    c.try-order-tries.ensures.after ∙ standing_is t fs a b draw ord (codes_in s.home) (codes_in s.forbidden) eo eb eh ef in
-    let tries : c.try-order-tries.result ≡ length (run_places t fs a draw) = c.try-order-tries.ensures.value ∙ ap (λ (ps : List ℕ). length ps) places in
+    let after : standing c.try_order-tries.new.self ≡ run_standing t fs a draw =
+    c.try_order-tries.ensures.after ∙ standing_is t fs a b draw ord (codes_in s.home) (codes_in s.forbidden) eo eb eh ef in
+    let tries : c.try_order-tries.result ≡ length (run_places t fs a draw) = c.try_order-tries.ensures.value ∙ ap (λ (ps : List ℕ). length ps) places in
     record {
       value =
-          ap (λ (x : State). record { state = x; tries = c.try-order-tries.result }) (ap (λ (x : Standing). x.state) after)
+          ap (λ (x : State). record { state = x; tries = c.try_order-tries.result }) (ap (λ (x : Standing). x.state) after)
           ∙ ap (λ (n : ℕ). record { state = (run_standing t fs a draw).state; tries = n }) tries;
-      trail = trailed_is c.try-order-tries.result (run_places t fs a draw) c.args.trail.now c.try-order-tries.new.trail tries (c.try-order-tries.ensures.trail ∙ places) c.try-order-tries.ensures.rest;
+      trail = trailed_is c.try_order-tries.result (run_places t fs a draw) c.args.trail.now c.try_order-tries.new.trail tries (c.try_order-tries.ensures.trail ∙ places) c.try_order-tries.ensures.rest;
       after = after;
-      files = c.try-order-tries.ensures.files ∙ files_are t fs a b draw ord (codes_in s.home) (codes_in s.forbidden) eo eb eh ef (g.C.Card.files c.read-subscriber.new.card) c.read-subscriber.ensures.same;
-      air = c.try-order-tries.ensures.air ∙ air_is t fs a b draw ord (codes_in s.home) (codes_in s.forbidden) eo eb eh ef;
+      files = c.try_order-tries.ensures.files ∙ files_are t fs a b draw ord (codes_in s.home) (codes_in s.forbidden) eo eb eh ef (g.C.Card.files c.read-subscriber.new.card) c.read-subscriber.ensures.same;
+      air = c.try_order-tries.ensures.air ∙ air_is t fs a b draw ord (codes_in s.home) (codes_in s.forbidden) eo eb eh ef;
     }
