@@ -70,8 +70,12 @@ def turn_antt(t, names):
     for line in t.split("\n"):
         at = line.find("--")
         code, note = (line, "") if at < 0 else (line[:at], line[at:])
-        out.append(turn(code, names) + quoted(note, names))
+        out.append(outside_strings(code, names) + quoted(note, names))
     return "\n".join(out)
+
+
+def outside_strings(t, names):
+    return "".join(s if s.startswith('"') else turn(s, names) for s in re.split(r"(\"(?:\\.|[^\"\\])*\")", t))
 
 
 def turn_rt(t, names):

@@ -1,6 +1,6 @@
 -- The laws of a run hold of every run in a sequence.
 use Rattle.std.proofs.Common.{◌≡◌, ℕ, ◌≤◌, List, [], ◌∷◌, map, length, Some, None, Ok, Err, fold, Option, sym, refl, ap, ◌∙◌, subst, arith}
-use Rattle.std.specs.List.{AllByRecursion as All}
+use Rattle.std.specs.List.{AllByRecursion}
 use Rattle.std.proofs.lemmas.List.{length-map}
 use Rattle.refusal.specs.declared.Refusal.{Refusal}
 use Rattle.radio.specs.Airs.{Air, Offer, fresh, sought, attempted}
@@ -19,9 +19,9 @@ use Rattle.agreement.specs.declared.call.Reply.TheVariants.{Ran}
 
 -- no sky to come has more than twenty rows
 abbrev FewComing : Air → Type 0
-FewComing a = All Few a.coming
+FewComing a = AllByRecursion Few a.coming
 
-later_few : (skies : List (List Offer)) → All Few skies → All Few (laterSkies skies)
+later_few : (skies : List (List Offer)) → AllByRecursion Few skies → AllByRecursion Few (laterSkies skies)
 later_few [] h = tt
 later_few (s ∷ t) h = h.1
 
@@ -37,14 +37,14 @@ either (Some e) a b p q = p
 few_after : (c : Call) (n : ℕ) (w : World) → FewComing w.air → FewComing (left_by c n w).air
 few_after (Run draw) n w h =
     either (refused_run n w) w.air (run_air w.standing w.files w.air draw) h
-    (subst (All Few) (sym (tries_leave_coming (run_places w.standing w.files w.air draw) (sought w.air))) (later_few w.air.coming h))
+    (subst (AllByRecursion Few) (sym (tries_leave_coming (run_places w.standing w.files w.air draw) (sought w.air))) (later_few w.air.coming h))
 few_after Look n w h = either (refused_look w) w.air (sought w.air) h (later_few w.air.coming h)
 few_after (Pick place) n w h = either (refused_pick place w) w.air (attempted w.air place) h h
 few_after Loss n w h = h
 few_after ChangeMode n w h = h
 few_after Restart n w h = h
 
-front_few : (skies : List (List Offer)) → All Few skies → Few (front skies)
+front_few : (skies : List (List Offer)) → AllByRecursion Few skies → Few (front skies)
 front_few [] h = omega arith
 front_few (s ∷ t) h = h.0
 
@@ -71,7 +71,7 @@ module _ (law : RunLaw) (holds : (draw n : ℕ) (w : World) → Few (sought w.ai
   every_run [] ns w few = tt
   every_run (c ∷ cs) ns w few = (at_call c (next ns) w few, every_run cs (later ns) (left_by c (next ns) w) (few_after c (next ns) w few))
 
-pub every_run_tries : (cs : List Call) (ns : List ℕ) (w : World) → All Few w.air.coming → EveryRun TriesOpenRowsInOrder w cs (history cs ns w)
+pub every_run_tries : (cs : List Call) (ns : List ℕ) (w : World) → AllByRecursion Few w.air.coming → EveryRun TriesOpenRowsInOrder w cs (history cs ns w)
 every_run_tries =
     every_run TriesOpenRowsInOrder
     (λ draw n w few.
@@ -79,7 +79,7 @@ every_run_tries =
     (run_answer w.standing w.files w.air draw) (run_places w.standing w.files w.air draw) w.air (run_air w.standing w.files w.air draw)
     (runs_try w.standing w.files w.air draw few, refl))
 
-pub every_run_keeps_off : (cs : List Call) (ns : List ℕ) (w : World) → All Few w.air.coming → EveryRun NeverTriesForbidden w cs (history cs ns w)
+pub every_run_keeps_off : (cs : List Call) (ns : List ℕ) (w : World) → AllByRecursion Few w.air.coming → EveryRun NeverTriesForbidden w cs (history cs ns w)
 every_run_keeps_off =
     every_run NeverTriesForbidden
     (λ draw n w few.

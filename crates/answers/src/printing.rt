@@ -30,7 +30,7 @@ fn push_digit(out: &mut String, value: u8) -> Result<(), AllocError>
 }
 
 /// Two capital digits.
-fn push_byte(out: &mut String, byte: u8) -> Result<(), AllocError>
+pub fn push_byte(out: &mut String, byte: u8) -> Result<(), AllocError>
     ensures { OnOk result (string_bytes out.new ≡ string_bytes out.old ++ byte_text byte) }
 {
     push_digit(out, byte / 16)?;
@@ -39,7 +39,7 @@ fn push_byte(out: &mut String, byte: u8) -> Result<(), AllocError>
 }
 
 /// Four capital digits.
-fn push_number(out: &mut String, number: u16) -> Result<(), AllocError>
+pub fn push_number(out: &mut String, number: u16) -> Result<(), AllocError>
     ensures { OnOk result (string_bytes out.new ≡ string_bytes out.old ++ number_text number) }
 {
     push_byte(out, (number / 256) as u8)?;
@@ -71,7 +71,7 @@ pub fn push_code(out: &mut String, code: Code) -> Result<(), AllocError>
 }
 
 /// The digits of all bytes, or `-` where there is none.
-fn push_bytes(out: &mut String, bytes: &[u8]) -> Result<(), AllocError>
+pub fn push_bytes(out: &mut String, bytes: &[u8]) -> Result<(), AllocError>
     ensures { OnOk result (string_bytes out.new ≡ string_bytes out.old ++ bytes_text bytes.now) }
 {
     if bytes.len() == 0 {
@@ -92,7 +92,7 @@ fn push_file(out: &mut String, file: u16, bytes: &[u8]) -> Result<(), AllocError
 }
 
 /// The line that says how many files a card has.
-fn push_card_head(heap: Global, out: &mut String, count: usize) -> Result<(), AllocError>
+pub fn push_card_head(heap: Global, out: &mut String, count: usize) -> Result<(), AllocError>
     ensures { OnOk result (string_bytes out.new ≡ string_bytes out.old ++ card_head count) }
 {
     let head = format!(in heap; "card: {count} files\n")?;

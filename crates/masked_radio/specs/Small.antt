@@ -2,7 +2,7 @@
 -- radio's meaning names it.
 use Rattle.std.specs.Prelude.{ℕ, suc, ◌≤◌, Bool, true, false, cond, List, [], ◌∷◌, map, length, filter}
 use Rattle.std.proofs.Common.{arith}
-use Rattle.std.specs.List.{AllByRecursion as All}
+use Rattle.std.specs.List.{AllByRecursion}
 use Rattle.std.proofs.ByRecursion.{all_kept_by}
 use Rattle.radio.specs.Skies.{Sky, Few, SmallSky}
 use Rattle.radio.specs.Airs.{Air, Brief, SmallAir}
@@ -17,11 +17,11 @@ length_kept p (x ∷ xs) =
 few_kept : {X : Type 0} (p : X → Bool) (xs : List X) → Few xs → Few (filter p xs)
 few_kept p xs h = let l = length_kept p xs in omega arith
 
-few_kept_coming : {X : Type 0} (p : X → Bool) (s : List (List X)) → All Few s → All Few (map (filter p) s)
+few_kept_coming : {X : Type 0} (p : X → Bool) (s : List (List X)) → AllByRecursion Few s → AllByRecursion Few (map (filter p) s)
 few_kept_coming p [] h = tt
 few_kept_coming p (xs ∷ s) h = (few_kept p xs h.0, few_kept_coming p s h.1)
 
-all_kept_coming : {X : Type 0} (P : X → Type 0) (p : X → Bool) (s : List (List X)) → All (All P) s → All (All P) (map (filter p) s)
+all_kept_coming : {X : Type 0} (P : X → Type 0) (p : X → Bool) (s : List (List X)) → AllByRecursion (AllByRecursion P) s → AllByRecursion (AllByRecursion P) (map (filter p) s)
 all_kept_coming P p [] h = tt
 all_kept_coming P p (xs ∷ s) h = (all_kept_by p P xs h.0, all_kept_coming P p s h.1)
 

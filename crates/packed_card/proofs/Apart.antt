@@ -1,7 +1,7 @@
 -- The good entries: none of them clashes with another, each fits the image, and a found one is one of them.
 use Rattle.std.proofs.Common.{◌≡◌, ℕ, ◌+◌, ◌<◌, ◌≤◌, min, Bool, true, false, cond, not, ◌&&◌, ◌||◌, eqb, leb, List, [], ◌∷◌, ◌++◌, length, take, Some, None, fold, Option, sym, refl, ap, ◌∙◌, subst, ⊎_elim, arith}
 use mathlib.Core.Path.{fun_ext}
-use Rattle.std.specs.List.{AllByRecursion as All}
+use Rattle.std.specs.List.{AllByRecursion}
 use Rattle.std.proofs.ByRecursion.{All-push}
 use Rattle.std.proofs.lemmas.List.{take_all}
 use Rattle.std.proofs.lemmas.Bool.{cases_lt, or_parts, or_from, and_parts, and_from, not-true, not_from_false, cond_both, cond-true, cond-false}
@@ -39,11 +39,11 @@ sound_push size (x ∷ xs) e s f k =
     (sound_push size xs e q.1 f r.1))
 
 -- each good entry lies in the image
-folded_fits : (size : ℕ) (es good : List Entry) → All (λ e. fits size e ≡ true) good → All (λ e. fits size e ≡ true) (fold (admitted size) good es)
+folded_fits : (size : ℕ) (es good : List Entry) → AllByRecursion (λ e. fits size e ≡ true) good → AllByRecursion (λ e. fits size e ≡ true) (fold (admitted size) good es)
 folded_fits size [] good s = s
 folded_fits size (e ∷ es) good s =
     folded_fits size es (admitted size good e)
-    (cond_both (fits size e && not (clashes e good)) (good ++ e ∷ []) good (All (λ f. fits size f ≡ true))
+    (cond_both (fits size e && not (clashes e good)) (good ++ e ∷ []) good (AllByRecursion (λ f. fits size f ≡ true))
     (λ t. All-push (λ f. fits size f ≡ true) good e s (and_parts (fits size e) (not (clashes e good)) t).0) (λ _. s))
 
 kept_all : (size : ℕ) (o : Option Entry) → ((e : Entry) → o ≡ Some e → fits size e ≡ true) → kept size o ≡ o

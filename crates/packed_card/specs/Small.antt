@@ -1,7 +1,7 @@
 -- A card image's files have at most 240 bytes. It stands here since the card's meaning names it.
 use Rattle.std.specs.Prelude.{◌≡◌, ℕ, ◌+◌, ◌≤◌, Bool, true, false, cond, not, ◌&&◌, List, [], ◌∷◌, length, Some, None, Option, ◌==◌, ◌≢◌, nat_le, refl}
 use Rattle.std.proofs.Common.{sym, subst, ◌∙◌, arith}
-use Rattle.std.specs.List.{AllByRecursion as All}
+use Rattle.std.specs.List.{AllByRecursion}
 use Rattle.std.proofs.lemmas.List.{length-take}
 use Rattle.std.proofs.lemmas.Bool.{and_parts, or_parts, not-true, cond_both, leb-true}
 use Rattle.card.specs.Files.{size_of}
@@ -18,15 +18,15 @@ same_some e f h = cc
 -- no two of the entries have a byte in common
 abbrev pub Spread : List Entry → Type 0
 Spread [] = Unit {0}
-Spread (x ∷ xs) = All (λ y. overlap x y ≡ false) xs × Spread xs
+Spread (x ∷ xs) = AllByRecursion (λ y. overlap x y ≡ false) xs × Spread xs
 
-free_each : (e : Entry) (xs : List Entry) → clashes e xs ≡ false → All (λ f. overlap e f ≡ false) xs
+free_each : (e : Entry) (xs : List Entry) → clashes e xs ≡ false → AllByRecursion (λ f. overlap e f ≡ false) xs
 free_each e [] h = tt
 free_each e (x ∷ xs) h =
     let p = or_parts (clash e x) (clashes e xs) h in
     ((or_parts (e.file == x.file) (overlap e x) p.0).1, free_each e xs p.1)
 
-pub sound_spread : (xs : List Entry) → sound xs ≡ true → Spread xs × All (λ e. nat_le e.length 240 ≡ true) xs
+pub sound_spread : (xs : List Entry) → sound xs ≡ true → Spread xs × AllByRecursion (λ e. nat_le e.length 240 ≡ true) xs
 sound_spread [] h = (tt, tt)
 sound_spread (x ∷ xs) h =
     let p = and_parts (nat_le x.length 240) (not (clashes x xs) && sound xs) h in
@@ -35,7 +35,7 @@ sound_spread (x ∷ xs) h =
     ((free_each x xs (not-true (clashes x xs) q.0), r.0), (p.0, r.1))
 
 -- what holds of every entry holds of a found one
-pub all_found : (P : Entry → Type 0) (n : ℕ) (xs : List Entry) (e : Entry) → All P xs → found n xs ≡ Some e → P e
+pub all_found : (P : Entry → Type 0) (n : ℕ) (xs : List Entry) (e : Entry) → AllByRecursion P xs → found n xs ≡ Some e → P e
 all_found P n [] e a h = absurd (none_some e h)
 all_found P n (x ∷ xs) e a h =
     elim (x.file == n) as (λ v. cond v (Some x) (found n xs) ≡ Some e → P e)

@@ -2,10 +2,10 @@ ghost use Rattle.std.specs.Prelude.{◌≡◌};
 
 use card::{Card, take_file};
 use names::file_name;
-use std::fmt;
+use std::alloc::AllocError;
 
 /// The bytes with a space before each, or `-` where there is none.
-fn write_bytes(out: &mut String, bytes: &[u8]) -> fmt::Result {
+fn write_bytes(out: &mut String, bytes: &[u8]) -> Result<(), AllocError> {
     if bytes.len() == 0 {
         return write!(out, " -");
     }
@@ -15,7 +15,7 @@ fn write_bytes(out: &mut String, bytes: &[u8]) -> fmt::Result {
     Ok(())
 }
 
-fn describe_file(out: &mut String, file: u16, bytes: &[u8]) -> fmt::Result {
+fn describe_file(out: &mut String, file: u16, bytes: &[u8]) -> Result<(), AllocError> {
     let name = file_name(file);
     write!(out, "  {file:04X} {name:<12}")?;
     write_bytes(out, bytes)?;
@@ -23,7 +23,7 @@ fn describe_file(out: &mut String, file: u16, bytes: &[u8]) -> fmt::Result {
 }
 
 /// The files that a card has now, of these numbers and in their order, with their names.
-pub fn describe_card<C: Card>(out: &mut String, card: &mut C, numbers: &[u16]) -> fmt::Result
+pub fn describe_card<C: Card>(out: &mut String, card: &mut C, numbers: &[u16]) -> Result<(), AllocError>
     ensures same { C.Card.files card.new ≡ C.Card.files card.old }
 {
     for file in numbers {

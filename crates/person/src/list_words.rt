@@ -1,7 +1,7 @@
 use entry_list::Listed;
 use names::{Network, technologies};
 use plmn::{Code, TechnologySet};
-use std::fmt;
+use std::alloc::AllocError;
 
 fn is_hole(entry: Listed) -> bool {
     entry.code.equals(Code::EMPTY)
@@ -9,7 +9,7 @@ fn is_hole(entry: Listed) -> bool {
 
 /// The next code of a row of codes, with a comma before it unless it is the first; a hole is left out. Says whether a code stands
 /// there now.
-fn write_next(out: &mut String, entry: Listed, started: bool) -> Result<bool, fmt::Error> {
+fn write_next(out: &mut String, entry: Listed, started: bool) -> Result<bool, AllocError> {
     if is_hole(entry) {
         return Ok(started);
     }
@@ -23,7 +23,7 @@ fn write_next(out: &mut String, entry: Listed, started: bool) -> Result<bool, fm
 }
 
 /// The codes of the entries that are no holes, or `none`.
-pub(crate) fn write_codes(out: &mut String, entries: &[Listed]) -> fmt::Result {
+pub(crate) fn write_codes(out: &mut String, entries: &[Listed]) -> Result<(), AllocError> {
     let mut started = false;
     for entry in entries {
         started = write_next(out, *entry, started)?;
@@ -46,7 +46,7 @@ fn write_entry(
     position: usize,
     entry: Listed,
     supported: TechnologySet,
-) -> fmt::Result {
+) -> Result<(), AllocError> {
     let network = Network(entry.code);
     let on = technologies(entry.technologies);
     if entry.technologies.meets(supported) {
@@ -62,7 +62,7 @@ pub(crate) fn write_list(
     name: &str,
     entries: &[Listed],
     supported: TechnologySet,
-) -> fmt::Result {
+) -> Result<(), AllocError> {
     if !has_entries(entries) {
         return writeln!(out, "  {name:<15}  none");
     }

@@ -1,8 +1,8 @@
 use card::{EF_AD, EF_FPLMN, EF_IMSI, EF_LOCI, FileImage};
 use names::FileName;
 use refusal::FileFault;
-use std::fmt;
 use subscriber::file_fault;
+use std::alloc::AllocError;
 
 /// A needed file, and how many bytes it has to have.
 #[derive(Clone, Copy)]
@@ -38,7 +38,7 @@ impl Needed {
     }
 
     /// What is wrong with the file; nothing where it is as it has to be.
-    pub(crate) fn write_fault(self, out: &mut String, image: &FileImage) -> fmt::Result {
+    pub(crate) fn write_fault(self, out: &mut String, image: &FileImage) -> Result<(), AllocError> {
         let file = FileName(self.file);
         let least = self.least;
         let length = image.bytes().len();
@@ -50,7 +50,7 @@ impl Needed {
     }
 
     /// A line for a file that is absent or short.
-    pub(crate) fn write_line(self, out: &mut String, image: &FileImage) -> fmt::Result {
+    pub(crate) fn write_line(self, out: &mut String, image: &FileImage) -> Result<(), AllocError> {
         if self.is_met(image) {
             return Ok(());
         }

@@ -7,11 +7,11 @@ use card::{Card, byte_at};
 use entry_list::{EntryList, FullEntry, ShortEntry};
 use names::{Network, Networks};
 use plmn::{Code, TechnologySet, low_half};
-use std::fmt;
 use subscriber::{home_codes, imsi_code, registered_code};
+use std::alloc::AllocError;
 
 /// Why files that are long enough give no IMSI code.
-fn write_digits_fault(out: &mut String, admin: &[u8]) -> fmt::Result {
+fn write_digits_fault(out: &mut String, admin: &[u8]) -> Result<(), AllocError> {
     let length = low_half(byte_at(admin, 3));
     if length == 2 || length == 3 {
         write!(out, "a digit of it is above 9")
@@ -21,7 +21,7 @@ fn write_digits_fault(out: &mut String, admin: &[u8]) -> fmt::Result {
 }
 
 /// Why the card gives no IMSI code.
-fn write_imsi_fault(out: &mut String, files: &SubscriberFiles) -> fmt::Result {
+fn write_imsi_fault(out: &mut String, files: &SubscriberFiles) -> Result<(), AllocError> {
     if !IMSI.is_met(&files.imsi) {
         IMSI.write_fault(out, &files.imsi)
     } else if !ADMIN.is_met(&files.admin) {
@@ -42,7 +42,7 @@ fn known_imsi_code(files: &SubscriberFiles) -> Option<Code> {
     }
 }
 
-fn write_imsi(out: &mut String, files: &SubscriberFiles) -> fmt::Result {
+fn write_imsi(out: &mut String, files: &SubscriberFiles) -> Result<(), AllocError> {
     match known_imsi_code(files) {
         Some(code) => {
             let network = Network(code);
@@ -57,7 +57,7 @@ fn write_imsi(out: &mut String, files: &SubscriberFiles) -> fmt::Result {
 }
 
 /// The registered code; a location that is too short has none.
-fn write_registered(out: &mut String, files: &SubscriberFiles) -> fmt::Result {
+fn write_registered(out: &mut String, files: &SubscriberFiles) -> Result<(), AllocError> {
     if !LOCATION.is_met(&files.location) {
         return writeln!(out, "  registered code  unknown");
     }
@@ -71,7 +71,7 @@ fn write_registered(out: &mut String, files: &SubscriberFiles) -> fmt::Result {
 }
 
 /// The home codes and the forbidden ones.
-fn write_code_lists(out: &mut String, files: &SubscriberFiles) -> fmt::Result {
+fn write_code_lists(out: &mut String, files: &SubscriberFiles) -> Result<(), AllocError> {
     let listed = EntryList::read::<ShortEntry>(&files.home);
     let imsi = known_imsi_code(files).unwrap_or(Code::EMPTY);
     let list = home_codes(&listed, imsi);
@@ -87,7 +87,7 @@ fn write_entry_lists(
     out: &mut String,
     files: &SubscriberFiles,
     supported: TechnologySet,
-) -> fmt::Result {
+) -> Result<(), AllocError> {
     let user = EntryList::read::<FullEntry>(&files.user);
     let operator = EntryList::read::<FullEntry>(&files.operator);
     write_list(out, "user list", user.entries(), supported)?;
@@ -95,7 +95,7 @@ fn write_entry_lists(
 }
 
 /// A line for each needed file that is absent or short.
-fn write_faults(out: &mut String, files: &SubscriberFiles) -> fmt::Result {
+fn write_faults(out: &mut String, files: &SubscriberFiles) -> Result<(), AllocError> {
     IMSI.write_line(out, &files.imsi)?;
     ADMIN.write_line(out, &files.admin)?;
     FORBIDDEN.write_line(out, &files.forbidden)?;
@@ -107,7 +107,7 @@ pub fn describe_subscriber<C: Card>(
     out: &mut String,
     card: &mut C,
     supported: TechnologySet,
-) -> fmt::Result
+) -> Result<(), AllocError>
     ensures same { C.Card.files card.new ≡ C.Card.files card.old }
 {
     let files = SubscriberFiles::take(card);

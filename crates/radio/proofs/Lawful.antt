@@ -1,7 +1,7 @@
 -- The laws of searching and trying.
 use Rattle.std.proofs.Common.{◌≡◌, ℕ, true, false, List, [], ◌∷◌, map, Some, None, Option, sym, refl, ap, ◌∙◌, arith}
 use Rattle.std.specs.Option.{option_map}
-use Rattle.std.specs.List.{AllByRecursion as All, slice_get}
+use Rattle.std.specs.List.{AllByRecursion, slice_get}
 use Rattle.radio.specs.Airs.{Air, Cell, Offer, row_in, marked, fresh, changed, sought, attempted}
 use Rattle.radio.specs.Skies.{front, later}
 use Rattle.radio.specs.Laws.{Seeking, Trying}
@@ -11,7 +11,7 @@ fresh_offers : (os : List Offer) → map (λ (c : Cell). c.offer) (map fresh os)
 fresh_offers [] = refl
 fresh_offers (o ∷ os) = ap (λ l. o ∷ l) (fresh_offers os)
 
-fresh_unmarked : (os : List Offer) → All (λ c. c.tried ≡ false) (map fresh os)
+fresh_unmarked : (os : List Offer) → AllByRecursion (λ c. c.tried ≡ false) (map fresh os)
 fresh_unmarked [] = tt
 fresh_unmarked (o ∷ os) = (refl, fresh_unmarked os)
 

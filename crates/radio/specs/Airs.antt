@@ -1,7 +1,7 @@
 -- What a registrar means: the rows of every sky with the answers of their networks, and which rows of the sky now were tried.
 use Rattle.std.specs.Prelude.{ℕ, zero, suc, ◌≤◌, Bool, true, false, cond, List, [], ◌∷◌, map, length, Some, None, Ok, Err, Option, Result, slice_index_or}
 use Rattle.std.specs.Option.{ok_or, option_map}
-use Rattle.std.specs.List.{AllByRecursion as All, slice_get}
+use Rattle.std.specs.List.{AllByRecursion, slice_get}
 use Rattle.refusal.specs.declared.Refusal.{Refusal}
 use Rattle.refusal.specs.declared.Refusal.TheVariants.{NoRow}
 use Rattle.plmn.specs.declared.code.Code.{Code}
@@ -102,6 +102,6 @@ BriefResult (Err _) = Unit {0}
 -- every sky, now or to come, has at most twenty rows, and every acceptance at most five codes
 pub record SmallAir (a : Air) : Type 0 where
   pub few : Few a.here
-  pub few_coming : All Few a.coming
-  pub brief : All (λ c. Brief c.offer) a.here
-  pub brief_coming : All (All Brief) a.coming
+  pub few_coming : AllByRecursion Few a.coming
+  pub brief : AllByRecursion (λ c. Brief c.offer) a.here
+  pub brief_coming : AllByRecursion (AllByRecursion Brief) a.coming

@@ -1,6 +1,6 @@
 -- Searching and trying in a reader's words. `nth rows k` is the row at the place k, or `None` where there is none.
 use Rattle.std.specs.Prelude.{◌≡◌, ℕ, ◌<◌, ◌≤◌, true, false, List, [], ◌∷◌, map, length, Some, None, ◌≢◌}
-use Rattle.std.specs.List.{AllByRecursion as All, slice_get}
+use Rattle.std.specs.List.{AllByRecursion, slice_get}
 use Rattle.plmn.specs.declared.row.Row.{Row}
 use Rattle.radio.specs.Skies.{Sky}
 use Rattle.radio.specs.Airs.{Air, Cell, Offer, Reply, row_in}
@@ -16,7 +16,7 @@ pub record Seeking (before after : Air) : Type 0 where
   pub takes_the_first : (s : List Offer) (t : List (List Offer)) → before.coming ≡ s ∷ t → (map (λ c. c.offer) after.here ≡ s) × (after.coming ≡ t)
   pub empties : before.coming ≡ [] → (after.here ≡ []) × (after.coming ≡ [])
   -- no row is marked
-  pub clears_marks : All (λ c. c.tried ≡ false) after.here
+  pub clears_marks : AllByRecursion (λ c. c.tried ≡ false) after.here
 
 pub record Trying (place : ℕ) (before after : Air) : Type 0 where
   -- no row, no answer and no sky to come changes

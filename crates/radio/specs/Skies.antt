@@ -1,7 +1,7 @@
 -- What a finder means: the rows of the sky now and of the skies to come, and what a search makes of them.
 use Rattle.std.specs.Prelude.{ℕ, ◌≤◌, List, [], ◌∷◌, length, Result}
 use Rattle.std.specs.Option.{ok_or}
-use Rattle.std.specs.List.{AllByRecursion as All, slice_get}
+use Rattle.std.specs.List.{AllByRecursion, slice_get}
 use Rattle.refusal.specs.declared.Refusal.{Refusal}
 use Rattle.refusal.specs.declared.Refusal.TheVariants.{NoRow}
 use Rattle.plmn.specs.declared.row.Row.{Row}
@@ -35,4 +35,4 @@ Few rows = length rows ≤ 20
 -- every sky, now or to come, has at most twenty rows
 pub record SmallSky (s : Sky) : Type 0 where
   pub few : Few s.here
-  pub few_coming : All Few s.coming
+  pub few_coming : AllByRecursion Few s.coming

@@ -19,7 +19,7 @@ abbrev pub state_name : State → List ℕ
 state_name JustOn = codes "just-on"
 state_name (Registered s) = codes "registered"
 state_name (Limited s) = codes "limited"
-state_name NoService = codes "no_service"
+state_name NoService = codes "no-service"
 state_name Locked = codes "locked"
 state_name (Lost s) = codes "lost"
 

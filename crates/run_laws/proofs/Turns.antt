@@ -1,6 +1,6 @@
 -- The trail among the turns: its places are places of turns, each once, and each was open when it was tried.
 use Rattle.std.proofs.Common.{◌≡◌, ℕ, Bool, List, [], ◌∷◌, ◌++◌, sym, refl, ap, ◌∙◌, subst, inl, inr, ⊎_elim, arith}
-use Rattle.std.specs.List.{AllByRecursion as All}
+use Rattle.std.specs.List.{AllByRecursion}
 use Rattle.std.proofs.lemmas.List.{append-nil, append_assoc}
 use Rattle.plmn.specs.declared.row.Row.{Row}
 use Rattle.causes.specs.declared.heard.Heard.{Heard}
@@ -26,7 +26,7 @@ pub no_places : (ks : List Key) → ((p : ℕ) → In p (places_of ks) → ⊥) 
 no_places [] f = refl
 no_places (k ∷ ks) f = absurd (f k.place (inl refl))
 
-off_places : (p : ℕ) (ks : List Key) → All (Off p) ks → In p (places_of ks) → ⊥
+off_places : (p : ℕ) (ks : List Key) → AllByRecursion (Off p) ks → In p (places_of ks) → ⊥
 off_places p [] a i = i
 off_places p (k ∷ ks) a i = ⊎_elim (λ (e : p ≡ k.place). a.0 (sym e)) (λ j. off_places p ks a.1 j) i
 

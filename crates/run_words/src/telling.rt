@@ -3,10 +3,10 @@ use fates::{Reason, hindrance, reason_not_tried};
 use order::{class_of, order_rows, served_home};
 use phrases::{AnswerWords, ClassWords, RowWords, Try, hindrance_words};
 use plmn::{Code, Row};
-use std::fmt;
+use std::alloc::AllocError;
 
 /// Whose answer of this run kept a row from its turn.
-fn tell_earlier(out: &mut String, what: &str, earlier: Option<Try>) -> fmt::Result {
+fn tell_earlier(out: &mut String, what: &str, earlier: Option<Try>) -> Result<(), AllocError> {
     match earlier {
         Some(earlier) => writeln!(out, "           {what} {earlier}"),
         None => Ok(()),
@@ -14,7 +14,7 @@ fn tell_earlier(out: &mut String, what: &str, earlier: Option<Try>) -> fmt::Resu
 }
 
 /// Why an allowed row was passed over at its turn, after so many tries.
-fn tell_reason(out: &mut String, account: &Account, row: Row, tries: usize) -> fmt::Result {
+fn tell_reason(out: &mut String, account: &Account, row: Row, tries: usize) -> Result<(), AllocError> {
     let done = account.heard_before(tries);
     match reason_not_tried(row, account.roaming, account.regional, done) {
         Some(Reason::NotReached(i)) => {
@@ -52,7 +52,7 @@ fn tell_fate(
     place: u8,
     row: Row,
     tries: usize,
-) -> Result<usize, fmt::Error> {
+) -> Result<usize, AllocError> {
     match account.try_at(tries) {
         Some(made) if made.place == place => {
             let words = AnswerWords {
@@ -77,7 +77,7 @@ fn tell_turn(
     turn: usize,
     place: u8,
     tries: usize,
-) -> Result<usize, fmt::Error> {
+) -> Result<usize, AllocError> {
     let Some(row) = account.row_at(place) else {
         return Ok(tries);
     };
@@ -91,7 +91,7 @@ fn tell_turn(
 }
 
 /// A row that has no turn, where this one has none.
-fn tell_without_turn(out: &mut String, account: &Account, place: usize, row: Row) -> fmt::Result {
+fn tell_without_turn(out: &mut String, account: &Account, place: usize, row: Row) -> Result<(), AllocError> {
     let forbidden = account.preferences.card.forbidden.codes();
     match hindrance(row, account.preferences.supported, forbidden) {
         Some(hindrance) => {
@@ -109,7 +109,7 @@ fn first_twenty(rows: &[Row]) -> &[Row] {
 
 /// The rows in the order of their turns, and then those that have none: class and position, and the answer or why there was no
 /// try.
-pub fn describe_run(out: &mut String, account: &Account) -> fmt::Result {
+pub fn describe_run(out: &mut String, account: &Account) -> Result<(), AllocError> {
     let rows = first_twenty(account.rows);
     let home = served_home(rows, account.preferences);
     let order = order_rows(rows, account.preferences, account.draw);

@@ -1,7 +1,7 @@
 -- A table's skies have at most twenty rows, and its acceptances at most five codes. It stands here since the radio's meaning names it.
 use Rattle.std.specs.Prelude.{◌≡◌, ℕ, zero, suc, ◌≤◌, Bool, List, [], ◌∷◌, map, length, take, drop, refl}
 use Rattle.std.proofs.Common.{ap, arith}
-use Rattle.std.specs.List.{AllByRecursion as All}
+use Rattle.std.specs.List.{AllByRecursion}
 use Rattle.std.proofs.lemmas.List.{length-take, length-map}
 use Rattle.plmn.specs.declared.code.Code.{Code}
 use Rattle.radio.specs.declared.answer.Answer.{Answer}
@@ -11,7 +11,7 @@ use Rattle.radio.specs.Airs.{Brief, SmallAir, codes_in}
 use Rattle.table_rows.specs.declared.row.TableRow.{TableRow}
 use Rattle.table_rows.specs.Tables.{cut, blocks, skies, celled, reply_of, offer_of, table_sky, table_air}
 
-few_blocks : {Y : Type 0} (f : TableRow → Y) (n : ℕ) (es : List TableRow) → All Few (map (map f) (blocks n es))
+few_blocks : {Y : Type 0} (f : TableRow → Y) (n : ℕ) (es : List TableRow) → AllByRecursion Few (map (map f) (blocks n es))
 few_blocks f zero es = tt
 few_blocks f (suc n) [] = tt
 few_blocks f (suc n) (e ∷ es) = (simp (length-map, length-take) (omega arith), few_blocks f n (drop 20 (e ∷ es)))
@@ -29,15 +29,15 @@ brief_reply (Acceptance n) codes = simp length-take (omega arith)
 brief_reply (Rejection cause) codes = omega arith
 brief_reply Silence codes = omega arith
 
-brief_offers : (es : List TableRow) → All Brief (map offer_of es)
+brief_offers : (es : List TableRow) → AllByRecursion Brief (map offer_of es)
 brief_offers [] = tt
 brief_offers (e ∷ es) = (brief_reply e.answer e.codes, brief_offers es)
 
-brief_blocks : (s : List (List TableRow)) → All (All Brief) (map (map offer_of) s)
+brief_blocks : (s : List (List TableRow)) → AllByRecursion (AllByRecursion Brief) (map (map offer_of) s)
 brief_blocks [] = tt
 brief_blocks (es ∷ s) = (brief_offers es, brief_blocks s)
 
-brief_cells : (es : List TableRow) (bs : List Bool) → All (λ c. Brief c.offer) (celled es bs)
+brief_cells : (es : List TableRow) (bs : List Bool) → AllByRecursion (λ c. Brief c.offer) (celled es bs)
 brief_cells [] bs = tt
 brief_cells (e ∷ es) [] = (brief_reply e.answer e.codes, brief_cells es [])
 brief_cells (e ∷ es) (b ∷ bs) = (brief_reply e.answer e.codes, brief_cells es bs)

@@ -9,26 +9,23 @@ use refusal::Refusal;
 use selector::On;
 use statements::Call;
 use states::Mode;
-use std::alloc::Global;
-use std::fmt;
+use std::alloc::{AllocError, Global};
 use table_radio::TableRadio;
 
-fn tell_refusal(out: &mut String, refusal: Refusal) -> fmt::Result {
+fn tell_refusal(out: &mut String, refusal: Refusal) -> Result<(), AllocError> {
     let words = RefusalWords(refusal);
     writeln!(out, "{words}")
 }
 
 /// The one line of a scenario whose settings are refused.
-pub fn tell_settings(out: &mut String) -> fmt::Result {
+pub fn tell_settings(out: &mut String) -> Result<(), AllocError> {
     write!(out, "settings: ")?;
     tell_refusal(out, Refusal::Technologies)
 }
 
 /// The files that a card has now, and what they say.
-fn tell_card(heap: Global, out: &mut String, board: &mut Board) -> fmt::Result {
-    let Ok(numbers) = file_numbers(heap, &board.card) else {
-        return Err(fmt::Error);
-    };
+fn tell_card(heap: Global, out: &mut String, board: &mut Board) -> Result<(), AllocError> {
+    let numbers = file_numbers(heap, &board.card)?;
     let files = numbers.as_slice();
     let count = files.len();
     writeln!(out, "card: {count} files")?;
@@ -37,7 +34,7 @@ fn tell_card(heap: Global, out: &mut String, board: &mut Board) -> fmt::Result {
 }
 
 /// The rows of the sky now.
-fn tell_sky(out: &mut String, board: &mut Board) -> fmt::Result {
+fn tell_sky(out: &mut String, board: &mut Board) -> Result<(), AllocError> {
     let sky = Sky::now(board);
     for (place, row) in sky.rows().iter().enumerate() {
         let found = RowWords { place, row: *row };
@@ -46,7 +43,7 @@ fn tell_sky(out: &mut String, board: &mut Board) -> fmt::Result {
     Ok(())
 }
 
-fn tell_look(out: &mut String, board: &mut Board, on: &On) -> fmt::Result {
+fn tell_look(out: &mut String, board: &mut Board, on: &On) -> Result<(), AllocError> {
     write!(out, "look: ")?;
     match on.look(&mut board.radio) {
         Ok(count) => {
@@ -59,7 +56,7 @@ fn tell_look(out: &mut String, board: &mut Board, on: &On) -> fmt::Result {
 }
 
 /// The row that was picked, and what its network answered.
-fn tell_try(out: &mut String, board: &mut Board, on: &On, place: usize) -> fmt::Result {
+fn tell_try(out: &mut String, board: &mut Board, on: &On, place: usize) -> Result<(), AllocError> {
     let heard = heard_at(board, place);
     let found = RowWords {
         place,
@@ -73,7 +70,7 @@ fn tell_try(out: &mut String, board: &mut Board, on: &On, place: usize) -> fmt::
     writeln!(out, "  {found}\n    tried: {answer}")
 }
 
-fn tell_pick(out: &mut String, board: &mut Board, on: &mut On, place: u64) -> fmt::Result {
+fn tell_pick(out: &mut String, board: &mut Board, on: &mut On, place: u64) -> Result<(), AllocError> {
     write!(out, "pick {place}: ")?;
     match on.pick(&mut board.radio, &mut board.card, place as usize) {
         Ok(state) => {
@@ -85,12 +82,12 @@ fn tell_pick(out: &mut String, board: &mut Board, on: &mut On, place: u64) -> fm
     }
 }
 
-fn tell_loss(out: &mut String, on: &mut On) -> fmt::Result {
+fn tell_loss(out: &mut String, on: &mut On) -> Result<(), AllocError> {
     let words = StateWords(on.loss());
     writeln!(out, "loss: {words}")
 }
 
-fn tell_mode(out: &mut String, on: &mut On) -> fmt::Result {
+fn tell_mode(out: &mut String, on: &mut On) -> Result<(), AllocError> {
     match on.change_mode() {
         Mode::Automatic => writeln!(out, "mode: was automatic, is manual now"),
         Mode::Manual => writeln!(out, "mode: was manual, is automatic now"),
@@ -98,7 +95,7 @@ fn tell_mode(out: &mut String, on: &mut On) -> fmt::Result {
 }
 
 /// The rows that were tried, of those of the sky now.
-fn tell_tried(out: &mut String, radio: &TableRadio, rows: &[Row]) -> fmt::Result {
+fn tell_tried(out: &mut String, radio: &TableRadio, rows: &[Row]) -> Result<(), AllocError> {
     let mut none = true;
     for (place, row) in rows.iter().enumerate() {
         if let Some(true) = radio.is_tried(place) {
@@ -113,11 +110,11 @@ fn tell_tried(out: &mut String, radio: &TableRadio, rows: &[Row]) -> fmt::Result
     writeln!(out)
 }
 
-fn tell_tried_on(out: &mut String, board: &Board, sky: &Sky) -> fmt::Result {
+fn tell_tried_on(out: &mut String, board: &Board, sky: &Sky) -> Result<(), AllocError> {
     tell_tried(out, &board.radio, sky.rows())
 }
 
-fn tell_marks(out: &mut String, board: &mut Board) -> fmt::Result {
+fn tell_marks(out: &mut String, board: &mut Board) -> Result<(), AllocError> {
     let sky = Sky::now(board);
     write!(out, "marks:")?;
     tell_tried_on(out, board, &sky)
@@ -130,7 +127,7 @@ pub fn tell_call(
     board: &mut Board,
     on: &mut On,
     call: Call,
-) -> fmt::Result {
+) -> Result<(), AllocError> {
     match call {
         Call::Card => tell_card(heap, out, board),
         Call::Marks => tell_marks(out, board),

@@ -8,8 +8,8 @@ use radio::Registrar;
 use run_words::{Account, describe_run};
 use selector::On;
 use states::RunAnswer;
-use std::fmt;
 use subscriber::{Identity, Subscriber};
+use std::alloc::AllocError;
 
 /// What a run depends on, as it was when the run began.
 #[derive(Clone, Copy)]
@@ -47,7 +47,7 @@ impl Start {
     }
 }
 
-fn write_head(out: &mut String, draw: u64, room: Option<u8>) -> fmt::Result {
+fn write_head(out: &mut String, draw: u64, room: Option<u8>) -> Result<(), AllocError> {
     match room {
         Some(room) => write!(out, "run {draw} {room}: "),
         None => write!(out, "run {draw}: "),
@@ -55,7 +55,7 @@ fn write_head(out: &mut String, draw: u64, room: Option<u8>) -> fmt::Result {
 }
 
 /// The places, each with a space before it, or `none`.
-fn write_places(out: &mut String, places: &[u8]) -> fmt::Result {
+fn write_places(out: &mut String, places: &[u8]) -> Result<(), AllocError> {
     if places.len() == 0 {
         return write!(out, " none");
     }
@@ -89,7 +89,7 @@ fn tell_turns<'x>(
     start: &'x Start,
     draw: u64,
     places: &'x [u8],
-) -> fmt::Result {
+) -> Result<(), AllocError> {
     let Some(preferences) = &start.preferences else {
         return Ok(());
     };
@@ -110,7 +110,7 @@ fn tell_turns<'x>(
 }
 
 /// What a run that was carried out answered.
-fn tell_answer(out: &mut String, answer: RunAnswer, places: &[u8]) -> fmt::Result {
+fn tell_answer(out: &mut String, answer: RunAnswer, places: &[u8]) -> Result<(), AllocError> {
     let state = StateWords(answer.state);
     write!(out, "{state}; tried")?;
     write_places(out, places)?;
@@ -124,7 +124,7 @@ fn tell_run_onto(
     on: &mut On,
     draw: u64,
     trail: &mut [u8],
-) -> fmt::Result {
+) -> Result<(), AllocError> {
     let start = Start::now(board, on);
     match on.run(&mut board.radio, &mut board.card, draw, trail) {
         Ok(answer) => {
@@ -146,7 +146,7 @@ pub(crate) fn tell_run(
     on: &mut On,
     draw: u64,
     room: Option<u8>,
-) -> fmt::Result {
+) -> Result<(), AllocError> {
     write_head(out, draw, room)?;
     let mut trail = [0u8; 255];
     let size = room.unwrap_or(20) as usize;

@@ -4,7 +4,7 @@ use Rattle.subscriber.specs.Codes.{codes_in}
 use Rattle.effects.specs.Accepted.{accepted_codes}
 use Rattle.effects.proofs.Valid.{valid_more, invalid_more}
 use Rattle.effects.proofs.equivalents.accepted_codes.Goals as goal
-use Rattle.effects.proofs.equivalents.accepted_codes.Goals.{then-is-valid, else-is-valid}
+use Rattle.effects.proofs.equivalents.accepted_codes.Goals.{then-is_valid, else-is_valid}
 
 pub loop-i-preserved : goal.loop-i-preserved
 loop-i-preserved g c =
@@ -16,11 +16,11 @@ loop-i-preserved g c =
     let air = c.accepted_code-code.ensures.air ∙ c.loop-i.invariant.2 in
     let sky = c.accepted_code-code.ensures.sky ∙ c.loop-i.invariant.3 in
     elim c.if-is_valid.branch [
-      | then-is-valid w ↦
+      | then-is_valid w ↦
           let m = valid_more a.here c.args.place i (codes_in c.loop-i.codes) (codes_in w.add.new.self) c.accepted_code-code.result e (sym c.is_valid.ensures ∙ w.if-is_valid.true)
           c.loop-i.invariant.0 c.loop-i.invariant.1 few w.add.ensures in
           (ap codes_in w.codes-is ∙ m.0, (let q = ap (λ l. length (codes_in l)) w.codes-is in omega (arith, q, m.1)), air, sky)
-      | else-is-valid w ↦ (
+      | else-is_valid w ↦ (
         ap codes_in w.codes-is ∙ invalid_more a.here c.args.place i (codes_in c.loop-i.codes) c.accepted_code-code.result e (sym c.is_valid.ensures ∙ w.if-is_valid.false) c.loop-i.invariant.0,
         (let q = ap (λ l. length (codes_in l)) w.codes-is in omega (arith, q, c.loop-i.invariant.1)),
         air,

@@ -9,7 +9,7 @@ read_into-requires g c = record {
 }
 
 pub invariant_of-result : goal.invariant_of-result
-invariant_of-result g c = (
-  at_most_eighty (length c.args.bytes.now) c.entry_length.result c.requires (subst (λ (k : ℕ). 3 ≤ k) (sym c.entry_length.ensures) g.met.K.EntryKind.long),
-  (c.read_into.auto.places, tt),
-)
+invariant_of-result g c = record {
+  within = at_most_eighty (length c.args.bytes.now) c.entry_length.result c.requires (subst (λ (k : ℕ). 3 ≤ k) (sym c.entry_length.ensures) g.met.K.EntryKind.long);
+  sized = c.read_into.auto.places;
+}

@@ -11,30 +11,30 @@ use Rattle.statements.proofs.Sentences.{codes_more, codes_bad, codes_end, codes_
 use Rattle.statements.proofs.parsing.read_codes.Goals as goal
 
 pub returns-then-is_bare : goal.returns-then-is_bare
-returns-then-is_bare c = sym (codes_end (5 - c.loop-i.-i) c.loop-i.codes c.loop-i.words.rest.now (sym c.if-is_bare.ensures)) ∙ c.loop-i.invariant.2
+returns-then-is_bare c = sym (codes_end (5 - c.loop-i._i) c.loop-i.codes c.loop-i.words.rest.now (sym c.if-is_bare.ensures)) ∙ c.loop-i.invariant.2
 
 pub returns-in-Err : goal.returns-in-Err
 returns-in-Err c =
     let line : List ℕ = c.loop-i.words.rest.now in
-    let m : ℕ = 5 - (c.loop-i.-i + 1) in
+    let m : ℕ = 5 - (c.loop-i._i + 1) in
     sym (codes_bad m c.in-Err.reason (past_word line))
     ∙ (ap (λ (r : Result Code Reason). codes_from m (with_code c.loop-i.codes r) (past_word line)) c.in-Err.ensures.value
-    ∙ (sym (codes_more (5 - c.loop-i.-i) m c.loop-i.codes line (omega arith) (sym c.if-is_bare.ensures)) ∙ c.loop-i.invariant.2))
+    ∙ (sym (codes_more (5 - c.loop-i._i) m c.loop-i.codes line (omega arith) (sym c.if-is_bare.ensures)) ∙ c.loop-i.invariant.2))
 
 pub loop-i-preserved : goal.loop-i-preserved
 loop-i-preserved c =
     let line : List ℕ = c.loop-i.words.rest.now in
-    let m : ℕ = 5 - (c.loop-i.-i + 1) in
+    let m : ℕ = 5 - (c.loop-i._i + 1) in
     let made : c.with_code-codes.result ≡ added c.loop-i.codes c.in-Ok.code = c.with_code-codes.ensures in (
       ap (λ (cs : Codes). cs.count) made ∙ ap (λ (n : ℕ). n + 1) c.loop-i.invariant.0,
       ap (λ (cs : Codes). length cs.codes) made ∙ (length-set c.loop-i.codes.codes c.loop-i.codes.count c.in-Ok.code ∙ c.loop-i.invariant.1),
       (λ i. codes_from m (Ok (made i)) (c.in-Ok.ensures.after i))
           ∙ (ap (λ (r : Result Code Reason). codes_from m (with_code c.loop-i.codes r) (past_word line)) c.in-Ok.ensures.value
-          ∙ (sym (codes_more (5 - c.loop-i.-i) m c.loop-i.codes line (omega arith) (sym c.if-is_bare.ensures)) ∙ c.loop-i.invariant.2)),
+          ∙ (sym (codes_more (5 - c.loop-i._i) m c.loop-i.codes line (omega arith) (sym c.if-is_bare.ensures)) ∙ c.loop-i.invariant.2)),
     )
 
 pub returns-then-is_bare-2 : goal.returns-then-is_bare-2
-returns-then-is_bare-2 c = sym (codes_end (5 - c.loop-i.-i) c.loop-i.codes c.loop-i.words.rest.now (sym c.if-is_bare-2.ensures)) ∙ c.loop-i.invariant.2
+returns-then-is_bare-2 c = sym (codes_end (5 - c.loop-i._i) c.loop-i.codes c.loop-i.words.rest.now (sym c.if-is_bare-2.ensures)) ∙ c.loop-i.invariant.2
 
 pub returns-else-is_bare-2 : goal.returns-else-is_bare-2
-returns-else-is_bare-2 c = sym (codes_full (5 - c.loop-i.-i) c.loop-i.codes c.loop-i.words.rest.now (omega arith) (sym c.if-is_bare-2.ensures)) ∙ c.loop-i.invariant.2
+returns-else-is_bare-2 c = sym (codes_full (5 - c.loop-i._i) c.loop-i.codes c.loop-i.words.rest.now (omega arith) (sym c.if-is_bare-2.ensures)) ∙ c.loop-i.invariant.2

@@ -4,7 +4,7 @@ use Rattle.tries.specs.Turns.{barred}
 use Rattle.tries.specs.Walks.{Walked}
 use Rattle.tries.proofs.Turning.{Mid, pass, next, last, over, moved}
 use Rattle.tries.proofs.walk.walk.Goals as goal
-use Rattle.tries.proofs.walk.walk.Goals.{in-Some+else-ends_run, in-default}
+use Rattle.tries.proofs.walk.walk.Goals.{in-Some+else-ends_run, in_default}
 
 pub loop-k-init : goal.loop-k-init
 loop-k-init g c = record { few = omega arith; size = refl; far = refl; ending = refl; told = refl; air = refl; rest = refl; here = refl }
@@ -26,10 +26,10 @@ loop-k-preserved g c =
           moved c.match-try_open.count c.match-try_open.heard c.match-try_open.trail w.count-is w.heard_is (w.trail-is ∙ w.write_place.ensures)
           (next (barred c.args.roaming.now c.args.regional.now) (g.R.Registrar.air c.args.radio.now) c.args.order.now c.args.trail.now c.loop-k.k-index c.loop-k.count c.loop-k.heard c.loop-k.trail (g.R.Registrar.air c.loop-k.radio) c.loop-k.invariant
           c.loop-k-test.true c.requires.few (omega arith) (c.loop-k.count - 0) (omega arith) w.in-Some.h (g.R.Registrar.air c.try_open.new.radio) w.in-Some.ensures.value c.try_open.ensures.air (sym w.if-ends_run.ensures))
-      | in-default w ↦
+      | in_default w ↦
           moved c.match-try_open.count c.match-try_open.heard c.match-try_open.trail w.count-is w.heard_is w.trail-is
           (pass (barred c.args.roaming.now c.args.regional.now) (g.R.Registrar.air c.args.radio.now) c.args.order.now c.args.trail.now c.loop-k.k-index c.loop-k.count c.loop-k.heard c.loop-k.trail (g.R.Registrar.air c.loop-k.radio) c.loop-k.invariant
-          c.loop-k-test.true (c.loop-k.count - 0) (g.R.Registrar.air c.try_open.new.radio) (omega arith) w.in-default.ensures.value c.try_open.ensures.air)
+          c.loop-k-test.true (c.loop-k.count - 0) (g.R.Registrar.air c.try_open.new.radio) (omega arith) w.in_default.ensures.value c.try_open.ensures.air)
     ]
 
 pub returns : goal.returns
