@@ -23,7 +23,11 @@ fn describe_file(out: &mut String, file: u16, bytes: &[u8]) -> Result<(), AllocE
 }
 
 /// The files that a card has now, of these numbers and in their order, with their names.
-pub fn describe_card<C: Card>(out: &mut String, card: &mut C, numbers: &[u16]) -> Result<(), AllocError>
+pub fn describe_card<C: Card>(
+    out: &mut String,
+    card: &mut C,
+    numbers: &[u16],
+) -> Result<(), AllocError>
     ensures same { C.Card.files card.new ≡ C.Card.files card.old }
 {
     for file in numbers {

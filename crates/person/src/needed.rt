@@ -1,8 +1,8 @@
 use card::{EF_AD, EF_FPLMN, EF_IMSI, EF_LOCI, FileImage};
 use names::FileName;
 use refusal::FileFault;
-use subscriber::file_fault;
 use std::alloc::AllocError;
+use subscriber::file_fault;
 
 /// A needed file, and how many bytes it has to have.
 #[derive(Clone, Copy)]

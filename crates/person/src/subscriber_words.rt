@@ -7,8 +7,8 @@ use card::{Card, byte_at};
 use entry_list::{EntryList, FullEntry, ShortEntry};
 use names::{Network, Networks};
 use plmn::{Code, TechnologySet, low_half};
-use subscriber::{home_codes, imsi_code, registered_code};
 use std::alloc::AllocError;
+use subscriber::{home_codes, imsi_code, registered_code};
 
 /// Why files that are long enough give no IMSI code.
 fn write_digits_fault(out: &mut String, admin: &[u8]) -> Result<(), AllocError> {

@@ -14,7 +14,12 @@ fn tell_earlier(out: &mut String, what: &str, earlier: Option<Try>) -> Result<()
 }
 
 /// Why an allowed row was passed over at its turn, after so many tries.
-fn tell_reason(out: &mut String, account: &Account, row: Row, tries: usize) -> Result<(), AllocError> {
+fn tell_reason(
+    out: &mut String,
+    account: &Account,
+    row: Row,
+    tries: usize,
+) -> Result<(), AllocError> {
     let done = account.heard_before(tries);
     match reason_not_tried(row, account.roaming, account.regional, done) {
         Some(Reason::NotReached(i)) => {
@@ -91,7 +96,12 @@ fn tell_turn(
 }
 
 /// A row that has no turn, where this one has none.
-fn tell_without_turn(out: &mut String, account: &Account, place: usize, row: Row) -> Result<(), AllocError> {
+fn tell_without_turn(
+    out: &mut String,
+    account: &Account,
+    place: usize,
+    row: Row,
+) -> Result<(), AllocError> {
     let forbidden = account.preferences.card.forbidden.codes();
     match hindrance(row, account.preferences.supported, forbidden) {
         Some(hindrance) => {

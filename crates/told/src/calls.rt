@@ -70,7 +70,12 @@ fn tell_try(out: &mut String, board: &mut Board, on: &On, place: usize) -> Resul
     writeln!(out, "  {found}\n    tried: {answer}")
 }
 
-fn tell_pick(out: &mut String, board: &mut Board, on: &mut On, place: u64) -> Result<(), AllocError> {
+fn tell_pick(
+    out: &mut String,
+    board: &mut Board,
+    on: &mut On,
+    place: u64,
+) -> Result<(), AllocError> {
     write!(out, "pick {place}: ")?;
     match on.pick(&mut board.radio, &mut board.card, place as usize) {
         Ok(state) => {

@@ -8,8 +8,8 @@ use radio::Registrar;
 use run_words::{Account, describe_run};
 use selector::On;
 use states::RunAnswer;
-use subscriber::{Identity, Subscriber};
 use std::alloc::AllocError;
+use subscriber::{Identity, Subscriber};
 
 /// What a run depends on, as it was when the run began.
 #[derive(Clone, Copy)]

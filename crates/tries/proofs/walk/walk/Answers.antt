@@ -23,11 +23,11 @@ pub loop-k-preserved : goal.loop-k-preserved
 loop-k-preserved g c =
     elim c.match-try_open.branch [
       | in-Some+else-ends_run w ↦
-          moved c.match-try_open.count c.match-try_open.heard c.match-try_open.trail w.count-is w.heard_is (w.trail-is ∙ w.write_place.ensures)
+          moved c.match-try_open.count c.match-try_open.heard c.match-try_open.trail w.count-is w.heard-is (w.trail-is ∙ w.write_place.ensures)
           (next (barred c.args.roaming.now c.args.regional.now) (g.R.Registrar.air c.args.radio.now) c.args.order.now c.args.trail.now c.loop-k.k-index c.loop-k.count c.loop-k.heard c.loop-k.trail (g.R.Registrar.air c.loop-k.radio) c.loop-k.invariant
           c.loop-k-test.true c.requires.few (omega arith) (c.loop-k.count - 0) (omega arith) w.in-Some.h (g.R.Registrar.air c.try_open.new.radio) w.in-Some.ensures.value c.try_open.ensures.air (sym w.if-ends_run.ensures))
       | in_default w ↦
-          moved c.match-try_open.count c.match-try_open.heard c.match-try_open.trail w.count-is w.heard_is w.trail-is
+          moved c.match-try_open.count c.match-try_open.heard c.match-try_open.trail w.count-is w.heard-is w.trail-is
           (pass (barred c.args.roaming.now c.args.regional.now) (g.R.Registrar.air c.args.radio.now) c.args.order.now c.args.trail.now c.loop-k.k-index c.loop-k.count c.loop-k.heard c.loop-k.trail (g.R.Registrar.air c.loop-k.radio) c.loop-k.invariant
           c.loop-k-test.true (c.loop-k.count - 0) (g.R.Registrar.air c.try_open.new.radio) (omega arith) w.in_default.ensures.value c.try_open.ensures.air)
     ]
