@@ -4,7 +4,7 @@ use Rattle.std.proofs.lemmas.Bool.{cond-true, cond-false, cases_Bool, and_parts,
 use Rattle.plmn.specs.Codes.{valid_code, same_code}
 use Rattle.plmn.specs.Technologies.{common}
 use Rattle.plmn.specs.declared.code.Code.{Code}
-use Rattle.plmn.proofs.Equality.{same_code_says}
+use Rattle.plmn.specs.Equality.{same_code_says}
 use Rattle.entry_list.specs.Entries.{usable, serves, first_from, first_match}
 use Rattle.entry_list.specs.Laws.{Serves, Matching}
 use Rattle.entry_list.specs.declared.listed.Listed.{Listed}

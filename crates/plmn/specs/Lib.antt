@@ -1,3 +1,4 @@
 pub mod Areas
 pub mod Codes
 pub mod Technologies
+pub mod Equality

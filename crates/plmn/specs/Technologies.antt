@@ -1,5 +1,5 @@
 -- The technologies by number and by bit, and the sets that a selector can support.
-use Rattle.std.specs.Prelude.{ℕ, Bool, true, false, cond, not, ◌&&◌, Some, None, Option, ◌==◌, bit_and}
+use Rattle.std.specs.Prelude.{ℕ, Bool, false, cond, not, ◌&&◌, Some, None, Option, ◌==◌, bit_and}
 use Rattle.plmn.specs.declared.technology.Technology.{Technology}
 use Rattle.plmn.specs.declared.technology.Technology.TheVariants.{Gsm, Utran, Eutran}
 

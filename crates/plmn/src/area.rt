@@ -1,5 +1,5 @@
 ghost use Rattle.plmn.specs.Areas.{same_area, empty_area};
-ghost use Rattle.std.proofs.Common.{rules};
+ghost use Rattle.plmn.specs.Equality.{same_area_says};
 
 use super::code::Code;
 use short_list::{Element, Same};
@@ -14,9 +14,9 @@ pub struct Area {
 impl Same for Area {
     ghost alike = { same_area };
 
-    ghost tells = { Prim.search rules };
+    ghost tells = { λ x y b h. h };
 
-    ghost decides = { Prim.search rules };
+    ghost decides = { same_area_says };
 }
 
 impl Element for Area {

@@ -1,6 +1,6 @@
 ghost use Rattle.std.specs.Prelude.{◌≡◌, ◌<◌};
 ghost use Rattle.plmn.specs.Codes.{valid_code, empty_code, same_code, matching, low, high, digit as digitIs, digits_of, code_of};
-ghost use Rattle.std.proofs.Common.{rules};
+ghost use Rattle.plmn.specs.Equality.{same_code_says};
 
 use short_list::{Element, Same};
 
@@ -117,9 +117,9 @@ impl Digits {
 impl Same for Code {
     ghost alike = { same_code };
 
-    ghost tells = { Prim.search rules };
+    ghost tells = { λ x y b h. h };
 
-    ghost decides = { Prim.search rules };
+    ghost decides = { same_code_says };
 }
 
 impl Element for Code {

@@ -6,7 +6,7 @@ use Rattle.plmn.specs.Codes.{valid_code, same_code}
 use Rattle.plmn.specs.Technologies.{has_number}
 use Rattle.plmn.specs.declared.code.Code.{Code}
 use Rattle.plmn.specs.declared.row.Row.{Row}
-use Rattle.plmn.proofs.Equality.{same_code_says}
+use Rattle.plmn.specs.Equality.{same_code_says}
 use Rattle.short_list.specs.Places.{held_in}
 use Rattle.short_list.proofs.Lawful.{held_from, not_held}
 use Rattle.radio.specs.Airs.{Cell, row_in}

@@ -5,7 +5,7 @@ use Rattle.std.proofs.lemmas.Bool.Decides.{nat_tests}
 use Rattle.std.proofs.lemmas.List.{map_push, get_or-set_same, get_or-set_other, length-set}
 use Rattle.plmn.specs.Codes.{same_code}
 use Rattle.plmn.specs.declared.row.Row.{Row}
-use Rattle.plmn.proofs.Equality.{same_code_says}
+use Rattle.plmn.specs.Equality.{same_code_says}
 use Rattle.radio.specs.declared.answer.Answer.{Answer}
 use Rattle.radio.specs.declared.answer.Answer.TheVariants.{Acceptance, Rejection, Silence}
 use Rattle.causes.specs.Causes.{effect_of, ends_of}
