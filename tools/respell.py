@@ -61,6 +61,14 @@ def turn(t, names):
     return WORD.sub(lambda m: names.get(m[0], m[0]), t)
 
 
+def own_name_of_all(t):
+    """port.py imports the old `All` under the name of the library's new one, which `rt ci` refuses: it gets its own name."""
+    if "AllByRecursion as All" not in t:
+        return t
+    t = t.replace("AllByRecursion as All", "AllByRecursion")
+    return re.sub(r"(?<![A-Za-z0-9_'\-])All(?![A-Za-z0-9_'\-])", "AllByRecursion", t)
+
+
 def quoted(t, names):
     return re.sub(r"`[^`\n]*`", lambda m: turn(m[0], names), t)
 
@@ -93,7 +101,8 @@ def main(argv):
     turned = 0
     for p in [*files(".antt", ".rt", ".edit"), *pages]:
         old = text(p)
-        new = turn_antt(old, names) if p.endswith(".antt") else quoted(old, names) if p.endswith(".md") else turn_rt(old, names)
+        new = own_name_of_all(old) if p.endswith((".antt", ".rt")) else old
+        new = turn_antt(new, names) if p.endswith(".antt") else quoted(new, names) if p.endswith(".md") else turn_rt(new, names)
         if new != old:
             turned += 1
             with open(p, "w", encoding="utf-8") as f:

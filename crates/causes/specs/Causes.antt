@@ -1,5 +1,5 @@
 -- What follows each cause (3GPP TS 24.008).
-use Rattle.std.specs.Prelude.{Bool, true, false, cond, ◌||◌, ℕ, eqb}
+use Rattle.std.specs.Prelude.{Bool, cond, ◌||◌, ℕ, eqb}
 use Rattle.causes.specs.declared.cause.Effect.{Effect}
 use Rattle.causes.specs.declared.cause.Effect.TheVariants.{Nothing, Lock, Forbid, Regional, Roaming}
 

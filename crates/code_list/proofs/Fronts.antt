@@ -1,5 +1,5 @@
 -- The front of a list's places, after it was changed in place.
-use Rattle.std.proofs.Common.{◌≡◌, ℕ, ◌-◌, ◌≤◌, List, ◌++◌, length, take, drop, sym, ap, ◌∙◌, arith}
+use Rattle.std.proofs.Common.{◌≡◌, ℕ, ◌-◌, List, ◌++◌, length, take, drop, ap, ◌∙◌, arith}
 use Rattle.std.proofs.lemmas.List.{length-append, length-take-le, length-drop, take_at}
 use Rattle.plmn.specs.declared.code.Code.{Code}
 use Rattle.code_list.specs.Codes.{codes_in}

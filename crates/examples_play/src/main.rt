@@ -2,7 +2,7 @@
 
 #![tactic(auto)]
 
-use play::{Style, play};
+use told_play::{Style, play};
 use scenario::read;
 use std::fmt::Display;
 use std::{env, fs, io};

@@ -1,5 +1,5 @@
 -- The IMSI code and the registered code.
-use Rattle.std.specs.Prelude.{ℕ, ◌+◌, ◌-◌, ◌/◌, ◌%◌, Bool, cond, ◌&&◌, ◌||◌, List, Some, None, Option, ◌==◌, slice_index}
+use Rattle.std.specs.Prelude.{ℕ, ◌+◌, ◌-◌, ◌/◌, ◌%◌, Bool, cond, ◌&&◌, List, Some, None, Option, ◌==◌, slice_index}
 use Rattle.plmn.specs.Codes.{low, high, digit, code_of, valid_code}
 use Rattle.plmn.specs.declared.code.Code.{Code}
 use Rattle.plmn.specs.declared.code.Digits.{Digits}

@@ -25,9 +25,6 @@ pub fn side_of(place: usize, first_rows: usize) -> Side
 pub fn shown(first_rows: usize, second_rows: usize) -> usize
     ensures { result ≡ min 20 (first_rows + second_rows) }
 {
-    if first_rows < 20 && second_rows < 20 - first_rows {
-        first_rows + second_rows
-    } else {
-        20
-    }
+    let rows = first_rows.saturating_add(second_rows);
+    if rows < 20 { rows } else { 20 }
 }

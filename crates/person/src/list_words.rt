@@ -1,34 +1,59 @@
+use super::code::{code_words, push_code_words};
+use super::technology::push_technologies;
 use entry_list::Listed;
-use names::{Network, technologies};
 use plmn::{Code, TechnologySet};
-use std::alloc::AllocError;
+use std::alloc::{AllocError, Global};
 
-fn is_hole(entry: Listed) -> bool {
-    entry.code.equals(Code::EMPTY)
-}
-
-/// The next code of a row of codes, with a comma before it unless it is the first; a hole is left out. Says whether a code stands
-/// there now.
-fn write_next(out: &mut String, entry: Listed, started: bool) -> Result<bool, AllocError> {
-    if is_hole(entry) {
+/// The next code of a row of codes, with a comma before it unless it is the first; an empty code is left out. Says whether a
+/// code stands there now.
+fn push_next(
+    heap: Global,
+    out: &mut String,
+    code: Code,
+    started: bool,
+) -> Result<bool, AllocError> {
+    if code.equals(Code::EMPTY) {
         return Ok(started);
     }
-    let network = Network(entry.code);
     if started {
-        write!(out, ", {network}")?;
-    } else {
-        write!(out, "{network}")?;
+        out.push_str(", ")?;
     }
+    push_code_words(heap, out, code)?;
     Ok(true)
 }
 
+fn push_none_unless(out: &mut String, started: bool) -> Result<(), AllocError> {
+    if started {
+        Ok(())
+    } else {
+        out.push_str("none")
+    }
+}
+
+/// The codes that are not empty, or `none`.
+pub(crate) fn push_codes(heap: Global, out: &mut String, codes: &[Code]) -> Result<(), AllocError> {
+    let mut started = false;
+    for code in codes {
+        started = push_next(heap, out, *code, started)?;
+    }
+    push_none_unless(out, started)
+}
+
 /// The codes of the entries that are no holes, or `none`.
-pub(crate) fn write_codes(out: &mut String, entries: &[Listed]) -> Result<(), AllocError> {
+pub(crate) fn push_listed_codes(
+    heap: Global,
+    out: &mut String,
+    entries: &[Listed],
+) -> Result<(), AllocError> {
     let mut started = false;
     for entry in entries {
-        started = write_next(out, *entry, started)?;
+        started = push_next(heap, out, entry.code, started)?;
     }
-    if started { Ok(()) } else { write!(out, "none") }
+    push_none_unless(out, started)
+}
+
+fn is_hole(entry: Listed) -> bool {
+    entry.code.equals(Code::EMPTY)
 }
 
 fn has_entries(entries: &[Listed]) -> bool {
@@ -41,35 +66,52 @@ fn has_entries(entries: &[Listed]) -> bool {
 }
 
 /// A line for an entry, with its position.
-fn write_entry(
+fn push_entry(
+    heap: Global,
     out: &mut String,
     position: usize,
     entry: Listed,
     supported: TechnologySet,
 ) -> Result<(), AllocError> {
-    let network = Network(entry.code);
-    let on = technologies(entry.technologies);
+    let words = code_words(heap, entry.code)?;
+    let code = words.as_str();
+    let head = format!(in heap; "    {position:>2}  {code:<7}  ")?;
+    out.push_str(head.as_str())?;
+    push_technologies(out, entry.technologies)?;
     if entry.technologies.meets(supported) {
-        writeln!(out, "    {position:>2}  {network:<7}  {on}")
+        out.push_str("\n")
     } else {
-        writeln!(out, "    {position:>2}  {network:<7}  {on} (ignored)")
+        out.push_str(" (ignored)\n")
     }
 }
 
-/// A list with a line for each entry that is no hole, or `none` behind its name.
-pub(crate) fn write_list(
+/// The name of a list, and behind it `none` where every entry is a hole.
+fn push_list_head(
+    heap: Global,
+    out: &mut String,
+    name: &str,
+    entries: &[Listed],
+) -> Result<(), AllocError> {
+    let head = if has_entries(entries) {
+        format!(in heap; "  {name}\n")?
+    } else {
+        format!(in heap; "  {name:<15}  none\n")?
+    };
+    out.push_str(head.as_str())
+}
+
+/// A list with a line for each entry that is no hole.
+pub(crate) fn push_list(
+    heap: Global,
     out: &mut String,
     name: &str,
     entries: &[Listed],
     supported: TechnologySet,
 ) -> Result<(), AllocError> {
-    if !has_entries(entries) {
-        return writeln!(out, "  {name:<15}  none");
-    }
-    writeln!(out, "  {name}")?;
+    push_list_head(heap, out, name, entries)?;
     for (position, entry) in entries.iter().enumerate() {
         if !is_hole(*entry) {
-            write_entry(out, position, *entry, supported)?;
+            push_entry(heap, out, position, *entry, supported)?;
         }
     }
     Ok(())

@@ -1,33 +1,33 @@
 ghost use Rattle.std.specs.Prelude.{◌≡◌};
 
+use super::code::push_code_words;
 use super::files::SubscriberFiles;
-use super::list_words::{write_codes, write_list};
+use super::list_words::{push_codes, push_list, push_listed_codes};
 use super::needed::{ADMIN, FORBIDDEN, IMSI, LOCATION};
 use card::{Card, byte_at};
 use entry_list::{EntryList, FullEntry, ShortEntry};
-use names::{Network, Networks};
 use plmn::{Code, TechnologySet, low_half};
-use std::alloc::AllocError;
+use std::alloc::{AllocError, Global};
 use subscriber::{home_codes, imsi_code, registered_code};
 
 /// Why files that are long enough give no IMSI code.
-fn write_digits_fault(out: &mut String, admin: &[u8]) -> Result<(), AllocError> {
+fn digits_words(heap: Global, admin: &[u8]) -> Result<String, AllocError> {
     let length = low_half(byte_at(admin, 3));
     if length == 2 || length == 3 {
-        write!(out, "a digit of it is above 9")
+        format!(in heap; "a digit of it is above 9")
     } else {
-        write!(out, "the MNC length is {length}, and neither 2 nor 3")
+        format!(in heap; "the MNC length is {length}, and neither 2 nor 3")
     }
 }
 
 /// Why the card gives no IMSI code.
-fn write_imsi_fault(out: &mut String, files: &SubscriberFiles) -> Result<(), AllocError> {
+fn no_imsi_words(heap: Global, files: &SubscriberFiles) -> Result<String, AllocError> {
     if !IMSI.is_met(&files.imsi) {
-        IMSI.write_fault(out, &files.imsi)
+        IMSI.fault_words(heap, &files.imsi)
     } else if !ADMIN.is_met(&files.admin) {
-        ADMIN.write_fault(out, &files.admin)
+        ADMIN.fault_words(heap, &files.admin)
     } else {
-        write_digits_fault(out, files.admin.bytes())
+        digits_words(heap, files.admin.bytes())
     }
 }
 
@@ -42,68 +42,78 @@ fn known_imsi_code(files: &SubscriberFiles) -> Option<Code> {
     }
 }
 
-fn write_imsi(out: &mut String, files: &SubscriberFiles) -> Result<(), AllocError> {
+fn push_imsi(heap: Global, out: &mut String, files: &SubscriberFiles) -> Result<(), AllocError> {
+    out.push_str("  IMSI code        ")?;
     match known_imsi_code(files) {
-        Some(code) => {
-            let network = Network(code);
-            writeln!(out, "  IMSI code        {network}")
-        }
+        Some(code) => push_code_words(heap, out, code)?,
         None => {
-            write!(out, "  IMSI code        unknown: ")?;
-            write_imsi_fault(out, files)?;
-            writeln!(out)
+            let reason = no_imsi_words(heap, files)?;
+            out.push_str("unknown: ")?;
+            out.push_str(reason.as_str())?;
         }
     }
+    out.push_str("\n")
 }
 
 /// The registered code; a location that is too short has none.
-fn write_registered(out: &mut String, files: &SubscriberFiles) -> Result<(), AllocError> {
-    if !LOCATION.is_met(&files.location) {
-        return writeln!(out, "  registered code  unknown");
-    }
-    match registered_code(files.location.bytes()) {
-        Some(code) => {
-            let network = Network(code);
-            writeln!(out, "  registered code  {network}")
+fn push_registered(
+    heap: Global,
+    out: &mut String,
+    files: &SubscriberFiles,
+) -> Result<(), AllocError> {
+    out.push_str("  registered code  ")?;
+    if LOCATION.is_met(&files.location) {
+        match registered_code(files.location.bytes()) {
+            Some(code) => push_code_words(heap, out, code)?,
+            None => out.push_str("none")?,
         }
-        None => writeln!(out, "  registered code  none"),
+    } else {
+        out.push_str("unknown")?;
     }
+    out.push_str("\n")
 }
 
 /// The home codes and the forbidden ones.
-fn write_code_lists(out: &mut String, files: &SubscriberFiles) -> Result<(), AllocError> {
+fn push_code_lists(
+    heap: Global,
+    out: &mut String,
+    files: &SubscriberFiles,
+) -> Result<(), AllocError> {
     let listed = EntryList::read::<ShortEntry>(&files.home);
     let imsi = known_imsi_code(files).unwrap_or(Code::EMPTY);
-    let list = home_codes(&listed, imsi);
-    let home = Networks(list.codes());
+    let home = home_codes(&listed, imsi);
+    out.push_str("  home codes       ")?;
+    push_codes(heap, out, home.codes())?;
+    out.push_str("\n  forbidden codes  ")?;
     let forbidden = EntryList::read::<ShortEntry>(&files.forbidden);
-    write!(out, "  home codes       {home}\n  forbidden codes  ")?;
-    write_codes(out, forbidden.entries())?;
-    writeln!(out)
+    push_listed_codes(heap, out, forbidden.entries())?;
+    out.push_str("\n")
 }
 
 /// The user list and the operator list.
-fn write_entry_lists(
+fn push_entry_lists(
+    heap: Global,
     out: &mut String,
     files: &SubscriberFiles,
     supported: TechnologySet,
 ) -> Result<(), AllocError> {
     let user = EntryList::read::<FullEntry>(&files.user);
     let operator = EntryList::read::<FullEntry>(&files.operator);
-    write_list(out, "user list", user.entries(), supported)?;
-    write_list(out, "operator list", operator.entries(), supported)
+    push_list(heap, out, "user list", user.entries(), supported)?;
+    push_list(heap, out, "operator list", operator.entries(), supported)
 }
 
 /// A line for each needed file that is absent or short.
-fn write_faults(out: &mut String, files: &SubscriberFiles) -> Result<(), AllocError> {
-    IMSI.write_line(out, &files.imsi)?;
-    ADMIN.write_line(out, &files.admin)?;
-    FORBIDDEN.write_line(out, &files.forbidden)?;
-    LOCATION.write_line(out, &files.location)
+fn push_faults(heap: Global, out: &mut String, files: &SubscriberFiles) -> Result<(), AllocError> {
+    IMSI.push_fault(heap, out, &files.imsi)?;
+    ADMIN.push_fault(heap, out, &files.admin)?;
+    FORBIDDEN.push_fault(heap, out, &files.forbidden)?;
+    LOCATION.push_fault(heap, out, &files.location)
 }
 
 /// What a card holds of its subscriber; any file may be absent or short.
 pub fn describe_subscriber<C: Card>(
+    heap: Global,
     out: &mut String,
     card: &mut C,
     supported: TechnologySet,
@@ -111,9 +121,9 @@ pub fn describe_subscriber<C: Card>(
     ensures same { C.Card.files card.new ≡ C.Card.files card.old }
 {
     let files = SubscriberFiles::take(card);
-    write_imsi(out, &files)?;
-    write_registered(out, &files)?;
-    write_code_lists(out, &files)?;
-    write_entry_lists(out, &files, supported)?;
-    write_faults(out, &files)
+    push_imsi(heap, out, &files)?;
+    push_registered(heap, out, &files)?;
+    push_code_lists(heap, out, &files)?;
+    push_entry_lists(heap, out, &files, supported)?;
+    push_faults(heap, out, &files)
 }

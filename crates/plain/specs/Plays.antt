@@ -9,9 +9,9 @@ use Rattle.transcript.specs.Lines.{reply_text}
 use Rattle.agreement.specs.Rules.{reply_of, places_of, left_by}
 use Rattle.agreement.specs.Worlds.{World}
 use Rattle.agreement.specs.declared.call.Call.{Call as Made}
-use Rattle.agreement.specs.declared.call.Call.TheVariants.{Run as RunMade, Look as LookMade, Pick as PickMade, Loss as LossMade, ChangeMode, Restart as RestartMade}
+use Rattle.agreement.specs.declared.call.Call.TheVariants.{Run as RunMade, Look as LookMade, Pick as PickMade, ChangeMode, Restart as RestartMade}
 use Rattle.statements.specs.declared.statement.Call.{Call}
-use Rattle.statements.specs.declared.statement.Call.TheVariants.{Card, Marks, Run, Look, Pick, Loss, Mode, Restart}
+use Rattle.statements.specs.declared.statement.Call.TheVariants.{Card, Marks, Run, Look, Pick, Mode, Restart}
 
 -- the row at a place of the sky was tried
 abbrev pub tried_at : List Cell → ℕ → Bool
@@ -44,7 +44,6 @@ line_of numbers Marks w = marks_text w.air.here
 line_of numbers (Run draw room) w = words_of_run draw room ++ answer_text (RunMade draw) (room_of room) w
 line_of numbers Look w = codes "look: " ++ answer_text LookMade 0 w
 line_of numbers (Pick place) w = (codes "pick " ++ (decimal place ++ codes ": ")) ++ answer_text (PickMade place) 0 w
-line_of numbers Loss w = codes "loss: " ++ answer_text LossMade 0 w
 line_of numbers Mode w = codes "mode: " ++ answer_text ChangeMode 0 w
 line_of numbers Restart w = codes "restart: " ++ answer_text RestartMade 0 w
 
@@ -55,7 +54,6 @@ left_after Marks w = w
 left_after (Run draw room) w = left_by (RunMade draw) (room_of room) w
 left_after Look w = left_by LookMade 0 w
 left_after (Pick place) w = left_by (PickMade place) 0 w
-left_after Loss w = left_by LossMade 0 w
 left_after Mode w = left_by ChangeMode 0 w
 left_after Restart w = left_by RestartMade 0 w
 

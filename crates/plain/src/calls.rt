@@ -64,7 +64,6 @@ pub fn play_call<R: Marked, C: Card>(
                 0,
             )
         }
-        Call::Loss => line(heap, out, "loss: ", on, radio, card, Made::Loss, 0),
         Call::Mode => line(heap, out, "mode: ", on, radio, card, Made::ChangeMode, 0),
         Call::Restart => line(heap, out, "restart: ", on, radio, card, Made::Restart, 0),
     }

@@ -1,14 +1,16 @@
+use super::board::Board;
+use super::calls::{play_look, play_marks, play_mode, play_pick, play_run};
+use super::files::push_files_now;
+use super::table::table_of;
+use super::wording::{describe_files_now, describe_run, describe_sky};
 use answers::push_settings;
-use board::{Board, table_of};
 use packed_card::PackedCard;
-use plain::play_call;
 use plmn::{Settings, TechnologySet};
 use scenario::Scenario;
 use selector::{Off, On};
 use statements::Call;
 use std::alloc::{AllocError, Global};
 use table_radio::TableRadio;
-use told::{tell_call, tell_settings};
 
 /// For a tool, or for a person.
 #[derive(Clone, Copy)]
@@ -17,22 +19,8 @@ pub enum Style {
     Words,
 }
 
-/// The answer of a call, for a person.
-fn tell(
-    heap: Global,
-    out: &mut String,
-    board: &mut Board,
-    on: &mut On,
-    call: Call,
-) -> Result<(), AllocError> {
-    match tell_call(heap, out, board, on, call) {
-        Ok(()) => Ok(()),
-        Err(_) => Err(AllocError),
-    }
-}
-
 /// Plays a call and gives back the selector, which a restart uses up.
-fn answer_call(
+fn play_call(
     heap: Global,
     out: &mut String,
     board: &mut Board,
@@ -41,25 +29,32 @@ fn answer_call(
     style: Style,
 ) -> Result<On, AllocError> {
     let mut on = on;
-    if let Call::Restart = call {
-        on = on.switch_off().switch_on();
-    }
-    match style {
-        Style::Plain => play_call(heap, out, board, &mut on, call)?,
-        Style::Words => tell(heap, out, board, &mut on, call)?,
+    match call {
+        Call::Card => match style {
+            Style::Plain => push_files_now(heap, out, &mut board.card)?,
+            Style::Words => describe_files_now(heap, out, board)?,
+        },
+        Call::Marks => play_marks(heap, out, board)?,
+        Call::Run(draw, room) => match style {
+            Style::Plain => {
+                play_run(heap, out, board, &mut on, draw, room)?;
+            }
+            Style::Words => describe_run(heap, out, board, &mut on, draw, room)?,
+        },
+        Call::Look => {
+            play_look(heap, out, board, &on)?;
+            if let Style::Words = style {
+                describe_sky(heap, out, board)?;
+            }
+        }
+        Call::Pick(place) => play_pick(heap, out, board, &mut on, place)?,
+        Call::Mode => play_mode(out, &mut on)?,
+        Call::Restart => {
+            out.push_str("restart: on\n")?;
+            on = on.switch_off().switch_on();
+        }
     }
     Ok(on)
-}
-
-/// The one line of a scenario whose settings are refused.
-fn refuse_settings(heap: Global, out: &mut String, style: Style) -> Result<(), AllocError> {
-    match style {
-        Style::Plain => push_settings(heap, out),
-        Style::Words => match tell_settings(out) {
-            Ok(()) => Ok(()),
-            Err(_) => Err(AllocError),
-        },
-    }
 }
 
 fn play_calls(
@@ -72,7 +67,7 @@ fn play_calls(
 ) -> Result<(), AllocError> {
     let mut on = Off::new(settings).switch_on();
     for call in calls {
-        on = answer_call(heap, out, board, on, *call, style)?;
+        on = play_call(heap, out, board, on, *call, style)?;
     }
     Ok(())
 }
@@ -86,7 +81,7 @@ pub fn play(heap: Global, scenario: &mut Scenario, style: Style) -> Result<Strin
     let settings = match Settings::check(supported) {
         Ok(settings) => settings,
         Err(_) => {
-            refuse_settings(heap, &mut out, style)?;
+            push_settings(heap, &mut out)?;
             return Ok(out);
         }
     };

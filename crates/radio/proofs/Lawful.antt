@@ -2,7 +2,7 @@
 use Rattle.std.proofs.Common.{◌≡◌, ℕ, true, false, List, [], ◌∷◌, map, Some, None, Option, sym, refl, ap, ◌∙◌, arith}
 use Rattle.std.specs.Option.{option_map}
 use Rattle.std.specs.List.{AllByRecursion, slice_get}
-use Rattle.radio.specs.Airs.{Air, Cell, Offer, row_in, marked, fresh, changed, sought, attempted}
+use Rattle.radio.specs.Airs.{Air, Cell, Offer, row_in, marked, fresh, sought, attempted}
 use Rattle.radio.specs.Skies.{front, later}
 use Rattle.radio.specs.Laws.{Seeking, Trying}
 use Rattle.radio.proofs.Changes.{changed_past, changed_at, changed_other, map_changed}

@@ -1,9 +1,9 @@
 -- Searching and trying in a reader's words. `nth rows k` is the row at the place k, or `None` where there is none.
-use Rattle.std.specs.Prelude.{◌≡◌, ℕ, ◌<◌, ◌≤◌, true, false, List, [], ◌∷◌, map, length, Some, None, ◌≢◌}
+use Rattle.std.specs.Prelude.{◌≡◌, ℕ, ◌≤◌, true, false, List, [], ◌∷◌, map, length, Some, ◌≢◌}
 use Rattle.std.specs.List.{AllByRecursion, slice_get}
 use Rattle.plmn.specs.declared.row.Row.{Row}
 use Rattle.radio.specs.Skies.{Sky}
-use Rattle.radio.specs.Airs.{Air, Cell, Offer, Reply, row_in}
+use Rattle.radio.specs.Airs.{Air, Cell, Offer, row_in}
 
 pub record Searching (before after : Sky) : Type 0 where
   -- the first sky to come is the sky now, and the others are still to come

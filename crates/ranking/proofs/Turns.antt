@@ -1,6 +1,6 @@
 -- What bringing a key to the front leaves, and one turn of the draw.
-use Rattle.std.proofs.Common.{◌≡◌, ℕ, suc, ◌+◌, ◌-◌, ◌/◌, ◌%◌, ◌<◌, ◌≤◌, List, [], ◌∷◌, ◌++◌, length, get_or, take, drop, pos, sym, refl, ap, ◌∙◌, subst, mod-lt, add-one, arith}
-use borrow.Rule.Slice.PartMut.{put_mid, post_of}
+use Rattle.std.proofs.Common.{◌≡◌, ℕ, ◌+◌, ◌-◌, ◌/◌, ◌%◌, ◌<◌, List, [], ◌∷◌, ◌++◌, length, get_or, take, drop, pos, sym, ap, ◌∙◌, subst, mod-lt, add-one, arith}
+use borrow.Rule.Slice.PartMut.{put_mid}
 use Rattle.std.specs.List.{remove}
 use Rattle.std.proofs.lemmas.List.{take_more, take_at, drop_at, take-take, take_rest, drop_all, length-take-le, length-drop, append_assoc, append-nil, get_or_default, length_push}
 use Rattle.ranking.specs.Draws.{Drawn}

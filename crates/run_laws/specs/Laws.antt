@@ -17,7 +17,7 @@ use Rattle.ranking.specs.declared.key.Key.{Key}
 use Rattle.order.specs.Keys.{keys_of, places_of}
 use Rattle.tries.specs.Laws.{In, Tries}
 use Rattle.tries.specs.Turns.{heard_sky, at, barred}
-use Rattle.selector.specs.Runs.{facts_in, forbidden_of, run_air, run_places, run_standing}
+use Rattle.selector.specs.Runs.{facts_in, forbidden_of, run_air, run_order, run_places, run_standing}
 use Rattle.states.specs.Standings.{Standing}
 use Rattle.states.specs.States.{serving_of}
 use Rattle.states.specs.declared.state.Serving.{Serving}
@@ -49,6 +49,21 @@ Once (p ∷ ps) = (In p ps → ⊥) × Once ps
 -- a place is the last of a trail
 abbrev pub LastOf : ℕ → List ℕ → Type 0
 LastOf p trail = (earlier : List ℕ) × (trail ≡ earlier ++ (p ∷ []))
+
+-- a run tries the rows open at their turn, in the order, until an answer ends it
+abbrev pub TriesThoseOpen : Type 0
+TriesThoseOpen = (s : Standing) (fs : Files) (a : Air) (draw : ℕ) → Tries (barred s.roaming s.regional) (heard_sky (sought a).here) [] (run_order s fs (sought a) draw) (run_places s fs a draw)
+
+-- a run ends without service exactly when its order has no turn
+abbrev pub NoServiceIfOrderEmpty : Type 0
+NoServiceIfOrderEmpty = (s : Standing) (fs : Files) (a : Air) (draw : ℕ) →
+    (((run_standing s fs a draw).state ≡ NoService) → run_order s fs (sought a) draw ≡ []) × ((run_order s fs (sought a) draw ≡ []) → (run_standing s fs a draw).state ≡ NoService)
+
+-- a run registers exactly when the last network that it tried accepts, and on that row
+abbrev pub RegistersOnLastTried : Type 0
+RegistersOnLastTried = (s : Standing) (fs : Files) (a : Air) (draw : ℕ) →
+    ((v : Serving) → (run_standing s fs a draw).state ≡ Registered v → (p : ℕ) × LastOf p (run_places s fs a draw) × ((n : ℕ) × ((at (heard_sky (sought a).here) p).answer ≡ Acceptance n)) × (serving_of (at (heard_sky (sought a).here) p).row ≡ v))
+    × ((p n : ℕ) → LastOf p (run_places s fs a draw) → (at (heard_sky (sought a).here) p).answer ≡ Acceptance n → (run_standing s fs a draw).state ≡ Registered (serving_of (at (heard_sky (sought a).here) p).row))
 
 -- The tries of a run with this trail, which leaves this state and this air.
 pub record Tried (s : Standing) (fs : Files) (a : Air) (draw : ℕ) (trail : List ℕ) (state : State) (left : Air) : Type 0 where

@@ -7,4 +7,5 @@ mod conclude;
 mod run;
 mod switched;
 
+pub use states::{Mode, RunAnswer, Serving, State};
 pub use switched::{Off, On};

@@ -13,7 +13,7 @@ use Rattle.statements.specs.declared.fault.Reason.TheVariants.{UnknownWord, Miss
 use Rattle.statements.specs.declared.statement.Answer.{Answer}
 use Rattle.statements.specs.declared.statement.Answer.TheVariants.{Accept, Cause, Silent}
 use Rattle.statements.specs.declared.statement.Call.{Call}
-use Rattle.statements.specs.declared.statement.Call.TheVariants.{Card, Marks, Run, Look, Pick, Loss, Mode, Restart}
+use Rattle.statements.specs.declared.statement.Call.TheVariants.{Card, Marks, Run, Look, Pick, Mode, Restart}
 use Rattle.statements.specs.declared.statement.Codes.{Codes}
 use Rattle.statements.specs.declared.statement.Keyword.{Keyword}
 use Rattle.statements.specs.declared.statement.Keyword.TheVariants as keyword
@@ -25,8 +25,7 @@ use Rattle.statements.specs.declared.statement.Statement.TheVariants as statemen
 abbrev pub call_keyword : List ℕ → Option Keyword
 call_keyword w =
     cond (bytes_eq w (codes "marks")) (Some keyword.Marks) (cond (bytes_eq w (codes "run")) (Some keyword.Run) (cond (bytes_eq w (codes "look")) (Some keyword.Look)
-    (cond (bytes_eq w (codes "pick")) (Some keyword.Pick) (cond (bytes_eq w (codes "loss")) (Some keyword.Loss) (cond (bytes_eq w (codes "mode")) (Some keyword.Mode)
-    (cond (bytes_eq w (codes "restart")) (Some keyword.Restart) None))))))
+    (cond (bytes_eq w (codes "pick")) (Some keyword.Pick) (cond (bytes_eq w (codes "mode")) (Some keyword.Mode) (cond (bytes_eq w (codes "restart")) (Some keyword.Restart) None)))))
 
 abbrev pub keyword_of : List ℕ → Option Keyword
 keyword_of w =
@@ -162,7 +161,6 @@ call_by keyword.Run rest = run_sentence (place_at rest) (room_at (past_word rest
 call_by keyword.Pick rest = closed (past_word rest) (pick_sentence (place_at rest))
 call_by keyword.Marks rest = closed rest (Ok (call Marks))
 call_by keyword.Look rest = closed rest (Ok (call Look))
-call_by keyword.Loss rest = closed rest (Ok (call Loss))
 call_by keyword.Mode rest = closed rest (Ok (call Mode))
 call_by keyword.Restart rest = closed rest (Ok (call Restart))
 call_by keyword.Card rest = closed rest (Ok (call Card))
@@ -185,7 +183,6 @@ sentence_by keyword.Marks rest = call_by keyword.Marks rest
 sentence_by keyword.Run rest = call_by keyword.Run rest
 sentence_by keyword.Look rest = call_by keyword.Look rest
 sentence_by keyword.Pick rest = call_by keyword.Pick rest
-sentence_by keyword.Loss rest = call_by keyword.Loss rest
 sentence_by keyword.Mode rest = call_by keyword.Mode rest
 sentence_by keyword.Restart rest = call_by keyword.Restart rest
 

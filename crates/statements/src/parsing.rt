@@ -22,8 +22,6 @@ fn call_keyword(word: &[u8]) -> Option<Keyword>
         Some(Keyword::Look)
     } else if is_text(word, b"pick") {
         Some(Keyword::Pick)
-    } else if is_text(word, b"loss") {
-        Some(Keyword::Loss)
     } else if is_text(word, b"mode") {
         Some(Keyword::Mode)
     } else if is_text(word, b"restart") {
@@ -265,7 +263,6 @@ fn parse_call<'a>(keyword: Keyword, words: Words<'a>) -> Result<Statement<'a>, R
         Keyword::Pick => parse_pick(words),
         Keyword::Marks => parse_bare(Call::Marks, words),
         Keyword::Look => parse_bare(Call::Look, words),
-        Keyword::Loss => parse_bare(Call::Loss, words),
         Keyword::Mode => parse_bare(Call::Mode, words),
         Keyword::Restart => parse_bare(Call::Restart, words),
         _ => parse_bare(Call::Card, words),

@@ -33,7 +33,6 @@ pub enum Call {
     Run(u64, Option<u8>),
     Look,
     Pick(u64),
-    Loss,
     Mode,
     Restart,
 }
@@ -52,7 +51,6 @@ pub enum Keyword {
     Run,
     Look,
     Pick,
-    Loss,
     Mode,
     Restart,
 }

@@ -47,18 +47,22 @@ registered_refusal Locked = None
 registered_refusal (Lost s) = None
 
 -- the selector's own checks of a run, after those of the card
-abbrev pub run_checks : Mode → State → ℕ → Option Refusal
-run_checks mode state room = first_of (trail_refusal room) (first_of (manual_refusal mode) (first_of (locked_refusal state) (registered_refusal state)))
+abbrev pub run_checks : Standing → ℕ → Option Refusal
+run_checks s room = first_of (trail_refusal room) (first_of (manual_refusal s.mode) (first_of (locked_refusal s.state) (registered_refusal s.state)))
+
+-- the same, by mode and state alone
+abbrev pub run_checks_by : Mode → State → ℕ → Option Refusal
+run_checks_by mode state room = first_of (trail_refusal room) (first_of (manual_refusal mode) (first_of (locked_refusal state) (registered_refusal state)))
 
 abbrev pub run_refusal : Standing → Files → ℕ → Option Refusal
-run_refusal s fs room = first_of (identity_refusal fs) (run_checks s.mode s.state room)
-
--- those of a look
-abbrev pub look_checks : Mode → State → Option Refusal
-look_checks mode state = first_of (automatic_refusal mode) (locked_refusal state)
+run_refusal s fs room = first_of (identity_refusal fs) (run_checks s room)
 
 abbrev pub look_refusal : Standing → Option Refusal
-look_refusal s = look_checks s.mode s.state
+look_refusal s = first_of (automatic_refusal s.mode) (locked_refusal s.state)
+
+-- the same, by mode and state alone
+abbrev pub look_checks_by : Mode → State → Option Refusal
+look_checks_by mode state = first_of (automatic_refusal mode) (locked_refusal state)
 
 -- a row that can be picked: it is there, with a valid code and a supported technology
 abbrev pub usable : ℕ → Row → Bool

@@ -1,5 +1,5 @@
 ghost use Rattle.std.specs.Prelude.{◌≡◌, Some, None, MatchResult};
-ghost use Rattle.states.specs.Checks.{run_checks, look_checks, usable};
+ghost use Rattle.states.specs.Checks.{run_checks_by, look_checks_by, usable};
 
 use super::state::{Mode, State};
 use plmn::{Row, TechnologySet};
@@ -7,7 +7,7 @@ use refusal::Refusal;
 
 /// The selector's own checks of a run with a trail of this many numbers.
 pub fn may_run(mode: Mode, state: State, room: usize) -> Result<(), Refusal>
-    ensures { MatchResult result (λ _. run_checks mode state room ≡ None) (λ e. run_checks mode state room ≡ Some e) }
+    ensures { MatchResult result (λ _. run_checks_by mode state room ≡ None) (λ e. run_checks_by mode state room ≡ Some e) }
 {
     if room < 20 {
         return Err(Refusal::ShortTrail);
@@ -22,7 +22,7 @@ pub fn may_run(mode: Mode, state: State, room: usize) -> Result<(), Refusal>
 
 /// The checks of a look, and the selector's own of a pick.
 pub fn may_look(mode: Mode, state: State) -> Result<(), Refusal>
-    ensures { MatchResult result (λ _. look_checks mode state ≡ None) (λ e. look_checks mode state ≡ Some e) }
+    ensures { MatchResult result (λ _. look_checks_by mode state ≡ None) (λ e. look_checks_by mode state ≡ Some e) }
 {
     match (mode, state) {
         (Mode::Automatic, _) => Err(Refusal::WrongMode),

@@ -1,5 +1,5 @@
 -- The codes of a row's acceptance: as many as it says, and five at most.
-use Rattle.std.proofs.Common.{◌≡◌, ℕ, ◌<◌, ◌≤◌, min, List, length, get_or, take, sym, ap, ◌∙◌, arith}
+use Rattle.std.proofs.Common.{◌≡◌, ℕ, ◌<◌, ◌≤◌, min, List, length, get_or, take, sym, ◌∙◌, arith}
 use Rattle.std.proofs.lemmas.List.{length-take, get_or_default, get_or-take, get_or_past}
 use Rattle.plmn.specs.declared.code.Code.{Code}
 use Rattle.plmn.specs.Codes.{empty_code}

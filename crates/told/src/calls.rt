@@ -1,7 +1,7 @@
 use super::runs::tell_run;
 use super::sky::{Sky, heard_at};
 use board::{Board, file_numbers};
-use person::{describe_card, describe_subscriber};
+use card_words::{describe_card, describe_subscriber};
 use phrases::{AnswerWords, RefusalWords, RowWords, StateWords};
 use plmn::Row;
 use radio::Registrar;
@@ -87,11 +87,6 @@ fn tell_pick(
     }
 }
 
-fn tell_loss(out: &mut String, on: &mut On) -> Result<(), AllocError> {
-    let words = StateWords(on.loss());
-    writeln!(out, "loss: {words}")
-}
-
 fn tell_mode(out: &mut String, on: &mut On) -> Result<(), AllocError> {
     match on.change_mode() {
         Mode::Automatic => writeln!(out, "mode: was automatic, is manual now"),
@@ -139,7 +134,6 @@ pub fn tell_call(
         Call::Run(draw, room) => tell_run(out, board, on, draw, room),
         Call::Look => tell_look(out, board, on),
         Call::Pick(place) => tell_pick(out, board, on, place),
-        Call::Loss => tell_loss(out, on),
         Call::Mode => tell_mode(out, on),
         Call::Restart => writeln!(out, "restart: switched off and on"),
     }

@@ -1,17 +1,13 @@
 -- The tests of a walk say what the laws say.
-use Rattle.std.proofs.Common.{◌≡◌, ℕ, zero, suc, ◌+◌, ◌<◌, ◌≤◌, Bool, true, false, cond, ◌||◌, eqb, ◌⊎◌, List, [], ◌∷◌, ◌++◌, map, length, get_or, set, fold, sym, refl, ap, ◌∙◌, subst, inl, inr, ⊎_elim, arith}
-use Rattle.std.proofs.lemmas.Bool.{and_parts, and_from, eqb-true, eq-eqb, both_ways, or_parts, or_from, or_cases}
+use Rattle.std.proofs.Common.{◌≡◌, ℕ, Bool, true, false, cond, List, [], ◌∷◌, ◌++◌, map, sym, refl, ap, ◌∙◌, subst, inl, inr, ⊎_elim, arith}
+use Rattle.std.proofs.lemmas.Bool.{both_ways, or_parts, or_cases}
 use Rattle.std.proofs.lemmas.Bool.Decides.{nat_tests}
-use Rattle.std.proofs.lemmas.List.{map_push, get_or-set_same, get_or-set_other, length-set}
-use Rattle.plmn.specs.Codes.{same_code}
+use Rattle.std.proofs.lemmas.List.{map_push}
 use Rattle.plmn.specs.declared.row.Row.{Row}
 use Rattle.plmn.specs.Equality.{same_code_says}
 use Rattle.radio.specs.declared.answer.Answer.{Answer}
 use Rattle.radio.specs.declared.answer.Answer.TheVariants.{Acceptance, Rejection, Silence}
-use Rattle.causes.specs.Causes.{effect_of, ends_of}
-use Rattle.causes.specs.Closing.{shuts, ends, closed, closes, closes_by}
-use Rattle.causes.specs.declared.cause.Effect.{Effect}
-use Rattle.causes.specs.declared.cause.Effect.TheVariants.{Nothing, Lock, Forbid, Regional, Roaming}
+use Rattle.causes.specs.Closing.{ends, closed, closes, closes_by}
 use Rattle.causes.specs.declared.heard.Heard.{Heard}
 use Rattle.ranking.specs.declared.key.Key.{Key}
 use Rattle.tries.specs.Turns.{at, shut}

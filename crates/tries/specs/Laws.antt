@@ -1,8 +1,8 @@
 -- The tries of a run in the subject's words.
-use Rattle.std.specs.Prelude.{◌≡◌, ℕ, Bool, true, false, ◌⊎◌, List, [], ◌∷◌, ◌++◌}
+use Rattle.std.specs.Prelude.{◌≡◌, ℕ, Bool, false, ◌⊎◌, List, [], ◌∷◌, ◌++◌}
 use Rattle.plmn.specs.declared.row.Row.{Row}
 use Rattle.radio.specs.declared.answer.Answer.{Answer}
-use Rattle.radio.specs.declared.answer.Answer.TheVariants.{Acceptance, Rejection, Silence}
+use Rattle.radio.specs.declared.answer.Answer.TheVariants.{Acceptance, Rejection}
 use Rattle.causes.specs.declared.heard.Heard.{Heard}
 use Rattle.ranking.specs.declared.key.Key.{Key}
 use Rattle.tries.specs.Turns.{at}

@@ -1,5 +1,5 @@
 -- What a run tries, as lists.
-use Rattle.std.specs.Prelude.{◌≡◌, ℕ, ◌≤◌, Bool, cond, List, [], ◌∷◌, ◌++◌, map, length, take, drop, Some, None, fold, Option}
+use Rattle.std.specs.Prelude.{◌≡◌, ℕ, ◌≤◌, Bool, cond, List, [], ◌∷◌, ◌++◌, map, take, drop, Some, None, fold, Option}
 use Rattle.plmn.specs.declared.row.Row.{Row}
 use Rattle.radio.specs.Airs.{Air, attempted}
 use Rattle.causes.specs.Closing.{ends}

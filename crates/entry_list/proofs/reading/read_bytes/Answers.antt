@@ -1,4 +1,4 @@
-use Rattle.std.proofs.Common.{◌≡◌, ℕ, ◌/◌, ◌≤◌, length, sym, ap, subst}
+use Rattle.std.proofs.Common.{ℕ, ◌/◌, ◌≤◌, length, sym, ap, subst}
 use Rattle.entry_list.proofs.Wholes.{at_most_eighty}
 use Rattle.entry_list.proofs.reading.read_bytes.Goals as goal
 

@@ -7,7 +7,6 @@ use Rattle.plmn.specs.Codes.{empty_code}
 use Rattle.entry_list.specs.Entries.{entry_bytes}
 use Rattle.entry_list.specs.declared.listed.Listed.{Listed}
 use Rattle.entry_list.proofs.Wholes.{whole}
-use Rattle.entry_list.proofs.reading.read_into.Given as given
 use Rattle.entry_list.proofs.reading.read_into.Goals as goal
 
 -- the entry at i lies in the file

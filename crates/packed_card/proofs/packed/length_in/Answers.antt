@@ -1,4 +1,4 @@
-use Rattle.std.proofs.Common.{◌≡◌, Some, sym, ap, ◌∙◌}
+use Rattle.std.proofs.Common.{Some, sym, ap, ◌∙◌}
 use Rattle.card.specs.Files.{length_of}
 use Rattle.packed_card.specs.Packed.{part, listed}
 use Rattle.packed_card.specs.Small.{packed_small}

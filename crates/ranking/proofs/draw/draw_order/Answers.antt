@@ -1,7 +1,6 @@
-use Rattle.std.proofs.Common.{◌≡◌, ◌<◌, ◌≤◌, List, [], ◌++◌, length, take, drop, sym, ap, ◌∙◌, subst, arith}
+use Rattle.std.proofs.Common.{◌<◌, ◌≤◌, [], length, ◌∙◌, subst, arith}
 use Rattle.std.proofs.lemmas.List.{length-drop, take_all, append-nil}
 use Rattle.ranking.specs.Draws.{Drawn}
-use Rattle.ranking.specs.declared.key.Key.{Key}
 use Rattle.ranking.proofs.Turns.{turn}
 use Rattle.ranking.proofs.draw.draw_order.Goals as goal
 

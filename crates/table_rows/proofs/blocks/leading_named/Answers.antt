@@ -1,4 +1,4 @@
-use Rattle.std.proofs.Common.{not, sym, ap, arith, rules}
+use Rattle.std.proofs.Common.{not, sym, ap, rules}
 use Rattle.std.proofs.lemmas.List.Sums.{prefix_len-drop_yes, prefix_len-drop_no, prefix_len-drop_all}
 use Rattle.table_rows.specs.Tables.{named}
 use Rattle.table_rows.proofs.blocks.leading_named.Goals as goal

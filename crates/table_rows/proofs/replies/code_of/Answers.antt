@@ -1,4 +1,4 @@
-use Rattle.std.proofs.Common.{◌<◌, length, arith, rules}
+use Rattle.std.proofs.Common.{◌<◌, length, rules}
 use Rattle.table_rows.proofs.Codes.{code_at, code_past}
 use Rattle.table_rows.proofs.replies.code_of.Goals as goal
 

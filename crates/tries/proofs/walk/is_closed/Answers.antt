@@ -1,7 +1,6 @@
-use Rattle.std.proofs.Common.{◌≡◌, ℕ, ◌+◌, ◌<◌, ◌||◌, List, [], ◌∷◌, length, get_or, drop, sym, ap, ◌∙◌}
+use Rattle.std.proofs.Common.{◌+◌, ◌||◌, drop, sym, ap, ◌∙◌}
 use Rattle.std.proofs.lemmas.List.{at_drop_more, at_drop_all}
-use Rattle.causes.specs.Closing.{closed, closes}
-use Rattle.causes.specs.declared.heard.Heard.{Heard}
+use Rattle.causes.specs.Closing.{closed}
 use Rattle.tries.proofs.walk.is_closed.Goals as goal
 
 pub returns-then-closes_row : goal.returns-then-closes_row

@@ -1,8 +1,7 @@
-use Rattle.std.proofs.Common.{◌≡◌, ℕ, ◌+◌, ◌-◌, ◌<◌, ◌≤◌, List, [], length, get_or, take, set, Some, sym, refl, ap, ◌∙◌, subst, arith, rules}
-use Rattle.causes.specs.declared.heard.Heard.{Heard}
+use Rattle.std.proofs.Common.{ℕ, ◌+◌, ◌-◌, List, take, set, Some, sym, refl, ◌∙◌, subst, arith, rules}
 use Rattle.tries.specs.Turns.{barred}
 use Rattle.tries.specs.Walks.{Walked}
-use Rattle.tries.proofs.Turning.{Mid, pass, next, last, over, moved}
+use Rattle.tries.proofs.Turning.{pass, next, last, over, moved}
 use Rattle.tries.proofs.walk.walk.Goals as goal
 use Rattle.tries.proofs.walk.walk.Goals.{in-Some+else-ends_run, in_default}
 

@@ -20,7 +20,7 @@ returns g c =
     let same : g.C.Card.files c.read.new.card ≡ fs = c.read.ensures.same in
     let refusal : Option Refusal = run_refusal t fs (length before) in
     let go : refusal ≡ None =
-    ap (λ (o : Option Refusal). first_of o (run_checks t.mode t.state (length before))) c.in_ok-identity.ensures.answer.accepted ∙ c.in_ok-may_run.ensures in
+    ap (λ (o : Option Refusal). first_of o (run_checks t (length before))) c.in_ok-identity.ensures.answer.accepted ∙ c.in_ok-may_run.ensures in
     record {
       answer = ap (λ (x : RunAnswer). Ok x) (c.run_checked.ensures.value ∙ ap (λ (f : Files). run_answer t f a draw) same) ∙ sym (ap (λ (o : Option Refusal). answered o (run_answer t fs a draw)) go);
       trail = c.run_checked.ensures.trail ∙ (ap (λ (f : Files). trailed (run_places t f a draw) before) same ∙ sym (ap (λ (o : Option Refusal). unless o before (trailed (run_places t fs a draw) before)) go));

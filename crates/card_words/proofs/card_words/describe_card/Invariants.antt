@@ -1,5 +1,5 @@
 use Rattle.std.proofs.Common.{◌≡◌}
-use Rattle.person.proofs.card_words.describe_card.Given as goal
+use Rattle.card_words.proofs.card_words.describe_card.Given as goal
 
 abbrev pub invariant-loop-file : goal.invariant-loop-file
 invariant-loop-file g l = g.C.Card.files l.card ≡ g.C.Card.files l.initial.card

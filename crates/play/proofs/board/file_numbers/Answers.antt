@@ -1,0 +1,22 @@
+use Rattle.std.proofs.Common.{◌≡◌, ℕ, ◌≤◌, List, [], ◌∷◌, length, take, vec_items, ap, ◌∙◌, arith}
+use Rattle.std.proofs.lemmas.List.{take_all, length-take}
+use Rattle.std.proofs.lemmas.Slice.{pushed}
+use Rattle.packed_card.specs.Packed.{listed}
+use Rattle.packed_card.specs.declared.entry.Entry.{Entry}
+use Rattle.play.specs.Numbers.{numbers_of}
+use Rattle.play.proofs.Numbers.{numbers_more, numbers_end}
+use Rattle.play.proofs.board.file_numbers.Goals as goal
+
+pub returns-in-None : goal.returns-in-None
+returns-in-None c = c.loop-place.invariant ∙ numbers_end c.loop-place.place (listed c.args.card.now.good) c.in-None.ensures
+
+pub loop-place-preserved : goal.loop-place-preserved
+loop-place-preserved c =
+    pushed (c.in-Some.file ∷ []) c.loop-place.invariant c.in_ok-push.was c.push.ensures.items
+    ∙ numbers_more c.loop-place.place (listed c.args.card.now.good) c.in-Some.file c.in-Some.ensures
+
+pub returns : goal.returns
+returns c =
+    let es : List Entry = listed c.args.card.now.good in
+    let short : length es ≤ 12 = omega (arith, length-take c.args.card.now.good.count c.args.card.now.good.entries, c.args.card.now.good.within.0) in
+    c.loop-place.invariant ∙ ap numbers_of (take_all c.loop-place.place es (omega arith))
