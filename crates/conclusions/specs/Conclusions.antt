@@ -16,7 +16,7 @@ use Rattle.effects.specs.Kept.{Kept, affected}
 use Rattle.states.specs.Standings.{Standing}
 use Rattle.states.specs.States.{serving_of}
 use Rattle.states.specs.declared.state.State.{State}
-use Rattle.states.specs.declared.state.State.TheVariants.{JustOn, Registered, Limited, NoService, Locked, Lost}
+use Rattle.states.specs.declared.state.State.TheVariants.{Registered, Limited, Locked}
 
 -- the state after an answer that ends a run or a pick: registered on an acceptance, locked by cause 2, 3 or 6, else limited, on that row
 abbrev pub by_effect : Effect → Row → State

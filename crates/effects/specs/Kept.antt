@@ -1,5 +1,5 @@
 -- What the answers of tried networks do to the lists.
-use Rattle.std.specs.Prelude.{Bool, true, false, cond, List, [], ◌∷◌}
+use Rattle.std.specs.Prelude.{cond, List}
 use Rattle.plmn.specs.Areas.{same_area, empty_area, area_of}
 use Rattle.plmn.specs.Codes.{same_code, empty_code}
 use Rattle.plmn.specs.declared.area.Area.{Area}

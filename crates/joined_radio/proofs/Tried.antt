@@ -1,5 +1,5 @@
 -- What a try of a row at a place leaves of the two radios below.
-use Rattle.std.proofs.Common.{◌≡◌, ℕ, ◌-◌, ◌<◌, ◌≤◌, Bool, ◌&&◌, ltb, leb, length}
+use Rattle.std.proofs.Common.{◌≡◌, ℕ, ◌-◌, ◌<◌, ◌≤◌, ◌&&◌, ltb, leb, length}
 use Rattle.std.proofs.lemmas.Bool.{cond-true, cond-false, and_from, and_left, and_right, lt-ltb, le-ltb, le-leb, lt-leb}
 use Rattle.radio.specs.Airs.{Air, attempted}
 use Rattle.joined_radio.specs.Joins.{first_tried, second_tried}

@@ -1,6 +1,6 @@
 -- Joined skies have at most twenty rows, and their acceptances at most five codes where those below do. It stands here since the
 -- radio's meaning names it.
-use Rattle.std.specs.Prelude.{List, [], ◌∷◌, ◌++◌, map, length}
+use Rattle.std.specs.Prelude.{List, [], ◌∷◌, ◌++◌, map}
 use Rattle.std.proofs.Common.{arith}
 use Rattle.std.specs.List.{AllByRecursion}
 use Rattle.std.proofs.lemmas.List.{length-take}

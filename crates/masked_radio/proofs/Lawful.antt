@@ -1,6 +1,5 @@
 -- The laws of masking.
-use Rattle.std.proofs.Common.{◌≡◌, ℕ, zero, suc, Bool, true, false, cond, List, [], ◌∷◌, map, length, get_or, Some, filter, sym, refl, ap, ◌∙◌}
-use Rattle.std.specs.List.{slice_get}
+use Rattle.std.proofs.Common.{◌≡◌, ℕ, zero, suc, Bool, true, false, cond, List, [], ◌∷◌, map, get_or, filter, refl, ap, ◌∙◌}
 use Rattle.std.proofs.lemmas.List.{length-map}
 use Rattle.radio.specs.Airs.{Air, Cell, marked}
 use Rattle.mask_places.specs.Masks.{cell_in_set, changed_among, tried_below}

@@ -1,11 +1,10 @@
 -- A radio's rows are its cells without answers and marks: what passes of the ones passes of the others.
-use Rattle.std.proofs.Common.{◌≡◌, ℕ, zero, suc, ◌≤◌, Bool, true, List, [], ◌∷◌, map, length, take, Some, None, filter, Option, sym, refl, ap, ◌∙◌, arith}
-use Rattle.std.specs.List.{slice_get}
+use Rattle.std.proofs.Common.{◌≡◌, ℕ, zero, suc, Bool, List, [], ◌∷◌, map, length, take, Some, None, filter, Option, sym, refl, ap, ◌∙◌, arith}
 use Rattle.std.proofs.lemmas.List.{length-map, take-map}
 use Rattle.radio.specs.Skies.{Sky}
 use Rattle.radio.specs.Airs.{Air, Offer, row_in, sky_of}
-use Rattle.mask_places.specs.Masks.{in_set, offer_in_set, cell_in_set, masked_sky, masked_air}
-use Rattle.mask_places.specs.Places.{passes, pass_at, Spot}
+use Rattle.mask_places.specs.Masks.{in_set, offer_in_set, masked_sky, masked_air}
+use Rattle.mask_places.specs.Places.{pass_at, Spot}
 use Rattle.mask_places.proofs.Kept.{kept_map}
 
 pub length_kept_map : {X Y : Type 0} (p : Y → Bool) (f : X → Y) (xs : List X) → length (filter p (map f xs)) ≡ length (filter (λ x. p (f x)) xs)

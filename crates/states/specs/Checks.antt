@@ -1,5 +1,5 @@
 -- When a call is not carried out: the checks of each call, in their order.
-use Rattle.std.specs.Prelude.{ℕ, Bool, cond, not, ◌&&◌, List, Some, None, Option, nat_lt}
+use Rattle.std.specs.Prelude.{ℕ, Bool, cond, ◌&&◌, List, Some, None, Option, nat_lt}
 use Rattle.std.specs.List.{slice_get}
 use Rattle.refusal.specs.declared.Refusal.{Refusal}
 use Rattle.refusal.specs.declared.Refusal.TheVariants.{ShortTrail, WrongMode, UnusableRow}

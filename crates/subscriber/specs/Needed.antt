@@ -1,5 +1,5 @@
 -- The files that every run needs, in the order in which they are checked.
-use Rattle.std.specs.Prelude.{ℕ, cond, List, length, Some, None, Option, nat_lt}
+use Rattle.std.specs.Prelude.{ℕ, cond, length, Some, None, Option, nat_lt}
 use Rattle.refusal.specs.declared.FileFault.{FileFault}
 use Rattle.refusal.specs.declared.FileFault.TheVariants.{Absent, Short}
 use Rattle.refusal.specs.declared.Refusal.{Refusal}

@@ -1,5 +1,5 @@
 -- Which rows stand in which sky, in a reader's words. Skies, places and rows count from 0.
-use Rattle.std.specs.Prelude.{◌≡◌, ℕ, ◌+◌, ◌*◌, ◌<◌, ◌≤◌, Bool, true, false, List, [], length, Some, None, Option, slice_index_or}
+use Rattle.std.specs.Prelude.{◌≡◌, ℕ, ◌+◌, ◌*◌, ◌<◌, ◌≤◌, true, List, [], length, Some, None, Option, slice_index_or}
 use Rattle.std.specs.List.{slice_get}
 use Rattle.table_rows.specs.declared.row.TableRow.{TableRow}
 use Rattle.table_rows.specs.Tables.{named}

@@ -1,5 +1,5 @@
 -- A table's skies have at most twenty rows, and its acceptances at most five codes. It stands here since the radio's meaning names it.
-use Rattle.std.specs.Prelude.{◌≡◌, ℕ, zero, suc, ◌≤◌, Bool, List, [], ◌∷◌, map, length, take, drop, refl}
+use Rattle.std.specs.Prelude.{◌≡◌, ℕ, zero, suc, ◌≤◌, Bool, List, [], ◌∷◌, map, length, drop, refl}
 use Rattle.std.proofs.Common.{ap, arith}
 use Rattle.std.specs.List.{AllByRecursion}
 use Rattle.std.proofs.lemmas.List.{length-take, length-map}
@@ -9,7 +9,7 @@ use Rattle.radio.specs.declared.answer.Answer.TheVariants.{Acceptance, Rejection
 use Rattle.radio.specs.Skies.{Few, SmallSky}
 use Rattle.radio.specs.Airs.{Brief, SmallAir, codes_in}
 use Rattle.table_rows.specs.declared.row.TableRow.{TableRow}
-use Rattle.table_rows.specs.Tables.{cut, blocks, skies, celled, reply_of, offer_of, table_sky, table_air}
+use Rattle.table_rows.specs.Tables.{blocks, skies, celled, reply_of, offer_of, table_sky, table_air}
 
 few_blocks : {Y : Type 0} (f : TableRow → Y) (n : ℕ) (es : List TableRow) → AllByRecursion Few (map (map f) (blocks n es))
 few_blocks f zero es = tt

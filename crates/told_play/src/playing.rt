@@ -1,10 +1,10 @@
 use answers::push_settings;
-use board::{Board, table_of};
+use board::{Board, file_numbers, table_of};
 use packed_card::PackedCard;
-use plain::play_call;
+use plain::play_calls;
 use plmn::{Settings, TechnologySet};
 use scenario::Scenario;
-use selector::{Off, On};
+use selector::Off;
 use statements::Call;
 use std::alloc::{AllocError, Global};
 use table_radio::TableRadio;
@@ -17,64 +17,50 @@ pub enum Style {
     Words,
 }
 
-/// The answer of a call, for a person.
-fn tell(
+/// The answers of calls on a new selector, for a person.
+fn tell_calls(
     heap: Global,
     out: &mut String,
     board: &mut Board,
-    on: &mut On,
-    call: Call,
+    settings: Settings,
+    calls: &[Call],
 ) -> Result<(), AllocError> {
-    match tell_call(heap, out, board, on, call) {
-        Ok(()) => Ok(()),
-        Err(_) => Err(AllocError),
+    let mut on = Off::new(settings).switch_on();
+    for call in calls {
+        if let Call::Restart = *call {
+            on = on.switch_off().switch_on();
+        }
+        tell_call(heap, out, board, &mut on, *call)?;
     }
+    Ok(())
 }
 
-/// Plays a call and gives back the selector, which a restart uses up.
-fn answer_call(
+/// The answers of calls on a new selector, for a tool.
+fn print_calls(
     heap: Global,
     out: &mut String,
     board: &mut Board,
-    on: On,
-    call: Call,
-    style: Style,
-) -> Result<On, AllocError> {
-    let mut on = on;
-    if let Call::Restart = call {
-        on = on.switch_off().switch_on();
-    }
-    match style {
-        Style::Plain => play_call(heap, out, board, &mut on, call)?,
-        Style::Words => tell(heap, out, board, &mut on, call)?,
-    }
-    Ok(on)
+    settings: Settings,
+    calls: &[Call],
+) -> Result<(), AllocError> {
+    let numbers = file_numbers(heap, &board.card)?;
+    play_calls(
+        heap,
+        out,
+        settings,
+        &mut board.radio,
+        &mut board.card,
+        numbers.as_slice(),
+        calls,
+    )
 }
 
 /// The one line of a scenario whose settings are refused.
 fn refuse_settings(heap: Global, out: &mut String, style: Style) -> Result<(), AllocError> {
     match style {
         Style::Plain => push_settings(heap, out),
-        Style::Words => match tell_settings(out) {
-            Ok(()) => Ok(()),
-            Err(_) => Err(AllocError),
-        },
+        Style::Words => tell_settings(out),
     }
-}
-
-fn play_calls(
-    heap: Global,
-    out: &mut String,
-    board: &mut Board,
-    settings: Settings,
-    calls: &[Call],
-    style: Style,
-) -> Result<(), AllocError> {
-    let mut on = Off::new(settings).switch_on();
-    for call in calls {
-        on = answer_call(heap, out, board, on, *call, style)?;
-    }
-    Ok(())
 }
 
 /// Plays a scenario: one answer for each call, or why the settings are refused.
@@ -98,13 +84,10 @@ pub fn play(heap: Global, scenario: &mut Scenario, style: Style) -> Result<Strin
         card,
         supported,
     };
-    play_calls(
-        heap,
-        &mut out,
-        &mut board,
-        settings,
-        scenario.calls.as_slice(),
-        style,
-    )?;
+    let calls = scenario.calls.as_slice();
+    match style {
+        Style::Plain => print_calls(heap, &mut out, &mut board, settings, calls)?,
+        Style::Words => tell_calls(heap, &mut out, &mut board, settings, calls)?,
+    }
     Ok(out)
 }

@@ -1,4 +1,4 @@
-use Rattle.std.proofs.Common.{◌≡◌, ℕ, List, ◌++◌, get_or, string_bytes, sym, ap, ◌∙◌, arith}
+use Rattle.std.proofs.Common.{ℕ, List, ◌++◌, get_or, string_bytes, ◌∙◌, arith}
 use Rattle.card.specs.Files.{Files}
 use Rattle.answers.specs.Printed.{file_line}
 use Rattle.answers.proofs.Pieces.{pieces_more, pieces_all}

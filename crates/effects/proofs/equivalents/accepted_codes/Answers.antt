@@ -1,4 +1,4 @@
-use Rattle.std.proofs.Common.{◌≡◌, ℕ, ◌<◌, ◌≤◌, min, length, sym, ap, ◌∙◌, arith}
+use Rattle.std.proofs.Common.{◌≡◌, ℕ, ◌<◌, min, length, sym, ap, ◌∙◌, arith}
 use Rattle.radio.specs.Airs.{Air, code_at}
 use Rattle.subscriber.specs.Codes.{codes_in}
 use Rattle.effects.specs.Accepted.{accepted_codes}

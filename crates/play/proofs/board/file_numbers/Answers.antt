@@ -12,7 +12,7 @@ returns-in-None c = c.loop-place.invariant ∙ numbers_end c.loop-place.place (l
 
 pub loop-place-preserved : goal.loop-place-preserved
 loop-place-preserved c =
-    pushed (c.in-Some.file ∷ []) c.loop-place.invariant c.in_ok-push.was c.push.ensures.items
+    pushed (c.in-Some.file ∷ []) c.loop-place.invariant c.in_ok-push-in-Some.was c.push.ensures.items
     ∙ numbers_more c.loop-place.place (listed c.args.card.now.good) c.in-Some.file c.in-Some.ensures
 
 pub returns : goal.returns
