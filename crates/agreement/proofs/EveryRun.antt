@@ -1,5 +1,5 @@
 -- The laws of a run hold of every run in a sequence.
-use Rattle.std.proofs.Common.{◌≡◌, ℕ, ◌≤◌, List, [], ◌∷◌, map, length, Some, None, Ok, Err, fold, Option, sym, refl, ap, ◌∙◌, subst, arith}
+use Rattle.std.proofs.Common.{◌≡◌, ℕ, ◌≤◌, List, [], ◌∷◌, length, Some, None, Ok, fold, Option, sym, refl, subst, arith}
 use Rattle.std.specs.List.{AllByRecursion}
 use Rattle.std.proofs.lemmas.List.{length-map}
 use Rattle.refusal.specs.declared.Refusal.{Refusal}
@@ -7,9 +7,9 @@ use Rattle.radio.specs.Airs.{Air, Offer, fresh, sought, attempted}
 use Rattle.radio.specs.Skies.{Few, front, later as laterSkies}
 use Rattle.run_laws.specs.Laws.{Tried, KeptOff}
 use Rattle.run_laws.proofs.Lawful.{runs_try, runs_keep_off}
-use Rattle.selector.specs.Runs.{run_places, run_standing, run_air, run_answer, unless, answered}
+use Rattle.selector.specs.Runs.{run_places, run_air, run_answer, unless, answered}
 use Rattle.states.specs.declared.state.RunAnswer.{RunAnswer}
-use Rattle.agreement.specs.Histories.{Seen, seen_after, next, later, history}
+use Rattle.agreement.specs.Histories.{seen_after, next, later, history}
 use Rattle.agreement.specs.Laws.{RunLaw, IfRun, EveryRun, TriesOpenRowsInOrder, NeverTriesForbidden}
 use Rattle.agreement.specs.Rules.{refused_run, refused_look, refused_pick, left_by}
 use Rattle.agreement.specs.Worlds.{World}

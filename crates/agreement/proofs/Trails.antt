@@ -1,5 +1,5 @@
 -- A part of a trail that is lent to a run, and the whole trail after it.
-use Rattle.std.proofs.Common.{◌≡◌, ℕ, zero, suc, ◌+◌, ◌-◌, ◌≤◌, List, [], ◌∷◌, ◌++◌, length, take, drop, Some, None, Option, sym, refl, ap, ◌∙◌, arith, length-append, length-drop}
+use Rattle.std.proofs.Common.{◌≡◌, ℕ, zero, suc, ◌≤◌, List, [], ◌∷◌, ◌++◌, length, take, drop, Some, None, Option, sym, refl, ap, ◌∙◌, arith, length-append, length-drop}
 use Rattle.std.proofs.lemmas.List.{take-append-drop, append_assoc, length-take-le, take_at}
 use Rattle.refusal.specs.declared.Refusal.{Refusal}
 use Rattle.selector.specs.Runs.{trailed, unless, answered}

@@ -2,10 +2,10 @@
 
 #![tactic(auto)]
 
-use told_play::{Style, play};
 use scenario::read;
 use std::fmt::Display;
 use std::{env, fs, io};
+use told_play::{Style, play};
 
 /// Ends the program with status 1; why stands on standard error.
 #[derive(Drop)]

@@ -1,5 +1,5 @@
 -- What ends a run is the answer of the last row tried.
-use Rattle.std.proofs.Common.{◌≡◌, ℕ, Bool, true, false, cond, List, [], ◌∷◌, ◌++◌, Some, None, Option, sym, refl, ap, ◌∙◌, subst, arith}
+use Rattle.std.proofs.Common.{◌≡◌, ℕ, Bool, true, false, cond, List, [], ◌∷◌, ◌++◌, Some, None, Option, sym, refl, ap, ◌∙◌, arith}
 use Rattle.plmn.specs.declared.row.Row.{Row}
 use Rattle.radio.specs.Airs.{Air}
 use Rattle.radio.specs.declared.answer.Answer.{Answer}
@@ -16,8 +16,7 @@ use Rattle.conclusions.specs.Conclusions.{by_effect, by_answer, state_by}
 use Rattle.selector.specs.Runs.{unended}
 use Rattle.states.specs.States.{serving_of, state_number, serving}
 use Rattle.states.specs.declared.state.Serving.{Serving}
-use Rattle.states.specs.declared.state.State.{State}
-use Rattle.states.specs.declared.state.State.TheVariants.{Limited, NoService, Locked, Registered}
+use Rattle.states.specs.declared.state.State.TheVariants.{Registered}
 use Rattle.run_laws.specs.Laws.{LastOf}
 
 -- the answer of the last row tried, where it ends a run

@@ -12,9 +12,8 @@ use Rattle.ranking.specs.declared.key.Key.{Key}
 use Rattle.conclusions.specs.Conclusions.{by_effect, by_answer, state_by}
 use Rattle.selector.specs.Runs.{unended, tries_end}
 use Rattle.states.specs.Standings.{Standing}
-use Rattle.states.specs.States.{serving_of, state_number}
-use Rattle.states.specs.declared.state.State.{State}
-use Rattle.states.specs.declared.state.State.TheVariants.{Limited, NoService, Locked, Registered}
+use Rattle.states.specs.States.{state_number}
+use Rattle.states.specs.declared.state.State.TheVariants.{NoService}
 
 effect_serves : (e : Effect) (r : Row) → by_effect e r ≡ NoService → ⊥
 effect_serves Lock r h = let z : ◌≡◌ {A = ℕ} 4 3 = ap state_number h in omega arith

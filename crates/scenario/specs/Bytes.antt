@@ -1,5 +1,5 @@
 -- Bytes as a line writes them: pairs of hexadecimal digits, together or with white between pairs, up to a comment.
-use Rattle.std.specs.Prelude.{◌≡◌, ℕ, Bool, true, false, cond, List, [], ◌∷◌, ◌++◌, take, Some, None, Ok, Err, Option, Result}
+use Rattle.std.specs.Prelude.{ℕ, cond, List, [], ◌∷◌, ◌++◌, take, Some, None, Ok, Err, Option, Result}
 use Rattle.std.specs.List.{prefix_len}
 use Rattle.words.specs.Digits.{pair_value}
 use Rattle.words.specs.Words.{white, of_run}

@@ -1,5 +1,5 @@
 -- A pick: the row is there, and what follows is what the rules say.
-use Rattle.std.proofs.Common.{◌≡◌, ℕ, zero, suc, true, cond, List, [], ◌∷◌, Some, None, Ok, Err, Option, Result, sym, refl, ap, ◌∙◌, subst, arith}
+use Rattle.std.proofs.Common.{◌≡◌, ℕ, zero, suc, true, List, [], ◌∷◌, Some, None, Ok, Err, Result, ap, ◌∙◌, subst, arith}
 use Rattle.std.specs.List.{slice_get}
 use Rattle.std.proofs.lemmas.Bool.{cond-true}
 use Rattle.refusal.specs.declared.Refusal.{Refusal}
@@ -7,7 +7,7 @@ use Rattle.refusal.specs.declared.Refusal.TheVariants.{NoRow, UnusableRow}
 use Rattle.plmn.specs.declared.code.Code.{Code}
 use Rattle.plmn.specs.declared.row.Row.{Row}
 use Rattle.card.specs.Files.{Files}
-use Rattle.radio.specs.Airs.{Air, Cell, entry_at, attempted}
+use Rattle.radio.specs.Airs.{Air, Cell, entry_at}
 use Rattle.radio.specs.declared.answer.Answer.{Answer}
 use Rattle.causes.specs.declared.heard.Heard.{Heard}
 use Rattle.states.specs.Checks.{usable, row_refusal}

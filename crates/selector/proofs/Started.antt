@@ -1,11 +1,10 @@
 -- The start of a run: what was read is what the card says, so the tries are those of the rules.
-use Rattle.std.proofs.Common.{◌≡◌, ℕ, List, ◌++◌, length, take, drop, Option, unwrap_or, sym, refl, ap, ◌∙◌}
+use Rattle.std.proofs.Common.{◌≡◌, ℕ, List, ◌++◌, length, take, drop, Option, unwrap_or, sym, ap, ◌∙◌}
 use Rattle.std.proofs.lemmas.List.{take-append-drop}
 use Rattle.plmn.specs.Codes.{empty_code}
 use Rattle.plmn.specs.declared.code.Code.{Code}
 use Rattle.plmn.specs.declared.technology.TechnologySet.{TechnologySet}
 use Rattle.card.specs.Files.{File, Files, bytes_of, home_file, location_file, user_file, operator_file}
-use Rattle.card.specs.Images.{image_of}
 use Rattle.radio.specs.Airs.{Air, sought}
 use Rattle.entry_list.specs.Entries.{entries, short_entry}
 use Rattle.entry_list.specs.Lists.{list_of}

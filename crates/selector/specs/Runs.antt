@@ -4,7 +4,6 @@ use Rattle.std.specs.Option.{unwrap_or}
 use Rattle.refusal.specs.declared.Refusal.{Refusal}
 use Rattle.plmn.specs.Codes.{empty_code}
 use Rattle.plmn.specs.declared.code.Code.{Code}
-use Rattle.plmn.specs.declared.row.Row.{Row}
 use Rattle.card.specs.Files.{Files, bytes_of, home_file, forbidden_file, user_file, operator_file, location_file}
 use Rattle.radio.specs.Airs.{Air, row_in, sought, attempted}
 use Rattle.subscriber.specs.Codes.{codes_of, home_codes}

@@ -1,5 +1,5 @@
 -- Statements of several words: what their parts say, the whole line says.
-use Rattle.std.proofs.Common.{◌≡◌, ℕ, zero, suc, Bool, true, false, cond, List, Some, None, Ok, Err, Option, Result, sym, refl, ap, ◌∙◌, subst}
+use Rattle.std.proofs.Common.{◌≡◌, ℕ, zero, suc, true, false, List, Some, Ok, Err, Option, sym, refl, ap, ◌∙◌}
 use Rattle.std.proofs.lemmas.Bool.{cond-true, cond-false}
 use Rattle.statements.specs.Statements.{nothing, with_code, codes_from, code_at, sentence_by, known, keyword_of, sentence_of}
 use Rattle.words.specs.Words.{word_of, past_word, bare}

@@ -1,5 +1,5 @@
 -- What a line says: its first word tells which statement it is, and the others are that statement's own.
-use Rattle.std.specs.Prelude.{◌≡◌, ℕ, zero, suc, ◌+◌, Bool, cond, List, [], ◌∷◌, set, replicate, ℤ, Some, None, Ok, Err, codes, Option, Result}
+use Rattle.std.specs.Prelude.{◌≡◌, ℕ, zero, suc, ◌+◌, cond, List, set, replicate, ℤ, Some, None, Ok, Err, codes, Option, Result}
 use Rattle.std.specs.Str.{bytes_eq}
 use Rattle.packed_card.specs.declared.entry.Entry.{Entry}
 use Rattle.plmn.specs.Codes.{empty_code}

@@ -1,5 +1,5 @@
 -- Worked examples, each by computation from the definitions that the contracts cite.
-use Rattle.std.specs.Prelude.{◌≡◌, ℕ, true, false, cond, List, [], ◌∷◌, ℤ, negsuc, Some, None, Option, ◌==◌}
+use Rattle.std.specs.Prelude.{◌≡◌, ℕ, true, false, cond, List, [], ◌∷◌, ℤ, negsuc, Some, None, ◌==◌}
 use Rattle.plmn.specs.Codes.{code_of, valid_code, empty_code, same_code}
 use Rattle.plmn.specs.declared.code.Code.{Code}
 use Rattle.plmn.specs.declared.code.Digits.{Digits}

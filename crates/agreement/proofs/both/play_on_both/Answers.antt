@@ -2,7 +2,7 @@ use Rattle.std.proofs.Common.{◌≡◌, ℕ, List, sym, ap, ◌∙◌}
 use Rattle.card.specs.Files.{Files}
 use Rattle.radio.specs.Airs.{Air}
 use Rattle.states.specs.Standings.{switched_off}
-use Rattle.agreement.specs.Histories.{Seen, lengths, history, finally, AlikeTrails}
+use Rattle.agreement.specs.Histories.{lengths, history, finally, AlikeTrails}
 use Rattle.agreement.specs.Worlds.{World, started}
 use Rattle.agreement.specs.declared.call.Call.{Call}
 use Rattle.agreement.proofs.Alike.{history_alike, finally_alike}

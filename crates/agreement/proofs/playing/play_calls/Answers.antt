@@ -1,10 +1,10 @@
-use Rattle.std.proofs.Common.{◌≡◌, ℕ, ◌+◌, ◌<◌, ◌≤◌, min, List, [], ◌∷◌, ◌++◌, length, get_or, drop, sym, refl, ap, ◌∙◌, subst, arith}
+use Rattle.std.proofs.Common.{◌≡◌, ℕ, ◌<◌, ◌≤◌, min, List, ◌++◌, length, drop, sym, refl, ap, ◌∙◌, subst}
 use Rattle.std.proofs.lemmas.List.{at_drop_all, append-nil}
 use Rattle.card.specs.Files.{Files}
 use Rattle.radio.specs.Airs.{Air}
 use Rattle.states.specs.Standings.{Standing, fresh, switched_on, switched_off}
 use Rattle.selector.specs.Views.{standing}
-use Rattle.agreement.specs.Histories.{Seen, lengths, next, history, finally, overwritten}
+use Rattle.agreement.specs.Histories.{lengths, next, history, finally, overwritten}
 use Rattle.agreement.specs.Worlds.{World, world, started}
 use Rattle.agreement.specs.declared.call.Call.{Call}
 use Rattle.agreement.proofs.Steps.{next_length, step_finally, step_heard, step_trail}

@@ -1,7 +1,4 @@
-use Rattle.std.proofs.Common.{◌≡◌, ℕ, ◌-◌, min, List, [], ◌∷◌, ◌++◌, length, take, sym, refl, ap, ◌∙◌, subst, arith}
-use Rattle.card.specs.Files.{Files}
-use Rattle.radio.specs.Airs.{Air}
-use Rattle.states.specs.Standings.{Standing}
+use Rattle.std.proofs.Common.{◌≡◌, ℕ, ◌-◌, min, List, [], ◌∷◌, ◌++◌, length, take, refl, ap, ◌∙◌, subst, arith}
 use Rattle.selector.specs.Views.{standing}
 use Rattle.agreement.specs.Histories.{Seen, seen, seen_after}
 use Rattle.agreement.specs.Rules.{reply_of, places_of, left_by}

@@ -1,4 +1,3 @@
-use Rattle.std.proofs.Common.{rules}
 use Rattle.person.proofs.technology.names.Goals as goal
 
 pub returns-in-true-true-true : goal.returns-in-true-true-true

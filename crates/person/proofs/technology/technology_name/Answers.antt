@@ -1,4 +1,4 @@
-use Rattle.std.proofs.Common.{◌≡◌, sym, ap, ◌∙◌}
+use Rattle.std.proofs.Common.{sym, ap, ◌∙◌}
 use Rattle.person.proofs.technology.technology_name.Goals as goal
 use Rattle.person.specs.Names.{name_of}
 

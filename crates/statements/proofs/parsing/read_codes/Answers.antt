@@ -1,11 +1,9 @@
-use Rattle.std.proofs.Common.{◌≡◌, ℕ, suc, ◌+◌, ◌-◌, Bool, true, false, cond, List, length, Ok, Err, Result, sym, ap, ◌∙◌, arith}
+use Rattle.std.proofs.Common.{◌≡◌, ℕ, ◌+◌, ◌-◌, List, length, Ok, Result, sym, ap, ◌∙◌, arith}
 use Rattle.std.proofs.lemmas.List.{length-set}
-use Rattle.std.proofs.lemmas.Bool.{cond-false}
 use Rattle.plmn.specs.declared.code.Code.{Code}
-use Rattle.statements.specs.Statements.{codes_from, code_at, with_code, added}
+use Rattle.statements.specs.Statements.{codes_from, with_code, added}
 use Rattle.words.specs.Words.{past_word}
 use Rattle.statements.specs.declared.fault.Reason.{Reason}
-use Rattle.statements.specs.declared.fault.Reason.TheVariants.{TooManyCodes}
 use Rattle.statements.specs.declared.statement.Codes.{Codes}
 use Rattle.statements.proofs.Sentences.{codes_more, codes_bad, codes_end, codes_full}
 use Rattle.statements.proofs.parsing.read_codes.Goals as goal

@@ -1,4 +1,4 @@
-use Rattle.std.proofs.Common.{◌≡◌, ℕ, List, Option, sym, ap, ◌∙◌, subst}
+use Rattle.std.proofs.Common.{ℕ, List, Option, sym, ap, ◌∙◌, subst}
 use Rattle.std.specs.Fmt.{WritesOnOk}
 use Rattle.plmn.specs.declared.technology.Technology.{Technology}
 use Rattle.names.specs.Names.{name_by}

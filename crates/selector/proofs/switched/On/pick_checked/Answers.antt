@@ -1,10 +1,10 @@
-use Rattle.std.proofs.Common.{◌≡◌, ℕ, List, sym, refl, ap, ◌∙◌}
+use Rattle.std.proofs.Common.{◌≡◌, ℕ, ap, ◌∙◌}
 use Rattle.card.specs.Files.{Files}
 use Rattle.radio.specs.Airs.{Air}
 use Rattle.causes.specs.declared.heard.Heard.{Heard}
 use Rattle.subscriber.specs.Codes.{codes_in}
 use Rattle.subscriber.specs.declared.identity.Subscriber.{Subscriber}
-use Rattle.selector.specs.Runs.{pick_heard, pick_air, pick_standing}
+use Rattle.selector.specs.Runs.{pick_heard, pick_standing}
 use Rattle.states.specs.Standings.{Standing}
 use Rattle.selector.specs.Views.{standing}
 use Rattle.selector.proofs.Picked.{heard_is, picked_standing, picked_files}

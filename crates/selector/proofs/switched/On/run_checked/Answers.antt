@@ -1,4 +1,4 @@
-use Rattle.std.proofs.Common.{◌≡◌, ℕ, List, map, length, sym, refl, ap, ◌∙◌}
+use Rattle.std.proofs.Common.{◌≡◌, ℕ, List, map, length, refl, ap, ◌∙◌}
 use Rattle.plmn.specs.declared.row.Row.{Row}
 use Rattle.card.specs.Files.{Files}
 use Rattle.radio.specs.Airs.{Air, row_in, sought}
@@ -11,7 +11,6 @@ use Rattle.subscriber.specs.declared.identity.Subscriber.{Subscriber}
 use Rattle.selector.specs.Runs.{facts_in, run_order, run_places, run_standing}
 use Rattle.states.specs.Standings.{Standing}
 use Rattle.selector.specs.Views.{standing}
-use Rattle.states.specs.declared.state.RunAnswer.{RunAnswer}
 use Rattle.states.specs.declared.state.State.{State}
 use Rattle.selector.proofs.Started.{facts_are, home_is, forbidden_is, places_are, standing_is, files_are, air_is, trailed_is}
 use Rattle.selector.proofs.switched.On.run_checked.Goals as goal
