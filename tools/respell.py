@@ -13,6 +13,8 @@ import sys
 WORD = re.compile(r"[A-Za-z_«◌][A-Za-z0-9_'\-»◌]*")
 SIGNATURE = re.compile(r"\s*(?:(?:abbrev|opaque|unfoldable|pub|instance)\s+)*(?:(?:record|data)\s+)?([^\s:(){},.=|;]+)\s+:\s")
 GENERATED = re.compile(r"^(invariant|decreases|returns|overflow|bounds|loop|ghost)-")
+# words that a program prints, which pages name too
+PRINTED = {"no-service", "no-places"}
 # where snake case alone would fall together with a crate, a field or a parameter
 CHOSEN = {
     "shortList": "short_kind_list",
@@ -102,7 +104,7 @@ def main(argv):
     for p in [*files(".antt", ".rt", ".edit"), *pages]:
         old = text(p)
         new = own_name_of_all(old) if p.endswith((".antt", ".rt")) else old
-        new = turn_antt(new, names) if p.endswith(".antt") else quoted(new, names) if p.endswith(".md") else turn_rt(new, names)
+        new = turn_antt(new, names) if p.endswith(".antt") else quoted(new, {a: b for a, b in names.items() if a not in PRINTED}) if p.endswith(".md") else turn_rt(new, names)
         if new != old:
             turned += 1
             with open(p, "w", encoding="utf-8") as f:

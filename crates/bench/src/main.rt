@@ -7,6 +7,7 @@ use play::{Style, play};
 use scenario::read;
 use std::fmt::Display;
 use std::io::Read;
+use std::process::ExitCode;
 use std::{env, fs, io};
 
 /// Ends the program with status 1; why stands on standard error.
@@ -53,14 +54,6 @@ fn source(rt: &HostRuntime, path: &Option<String>) -> io::Result<Vec<u8>> {
     }
 }
 
-/// Says why nothing was read, and of which file where one was named.
-fn unreadable(rt: &HostRuntime, path: &Option<String>, error: io::Error) -> Failed {
-    match path {
-        Some(path) => report(rt, format_args!("{path}: {error}")),
-        None => report(rt, error),
-    }
-}
-
 fn run(rt: &HostRuntime) -> Result<(), Failed> {
     let command = match command_line(rt) {
         Ok(Some(command)) => command,
@@ -69,7 +62,7 @@ fn run(rt: &HostRuntime) -> Result<(), Failed> {
     };
     let text = match source(rt, &command.path) {
         Ok(text) => text,
-        Err(error) => return Err(unreadable(rt, &command.path, error)),
+        Err(error) => return Err(report(rt, error)),
     };
     let mut scenario = match read(rt.alloc(), text.as_slice()) {
         Ok(scenario) => scenario,
@@ -85,6 +78,9 @@ fn run(rt: &HostRuntime) -> Result<(), Failed> {
     }
 }
 
-fn main(rt: HostRuntime) -> Result<(), Failed> {
-    run(&rt)
+fn main(rt: HostRuntime) -> ExitCode {
+    match run(&rt) {
+        Ok(()) => ExitCode::SUCCESS,
+        Err(Failed) => ExitCode::FAILURE,
+    }
 }

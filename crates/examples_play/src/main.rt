@@ -4,6 +4,7 @@
 
 use scenario::read;
 use std::fmt::Display;
+use std::process::ExitCode;
 use std::{env, fs, io};
 use told_play::{Style, play};
 
@@ -41,13 +42,20 @@ fn print(rt: &HostRuntime, path: &str, answers: String) -> io::Result<()> {
     rt.print(answers)
 }
 
-fn main(rt: HostRuntime) -> Result<(), Failed> {
-    let words = match env::args(&rt) {
+fn run(rt: &HostRuntime) -> Result<(), Failed> {
+    let words = match env::args(rt) {
         Ok(words) => words,
-        Err(error) => return Err(report(&rt, error)),
+        Err(error) => return Err(report(rt, error)),
     };
     for word in words.skip(1) {
-        show(&rt, word.as_str())?;
+        show(rt, word.as_str())?;
     }
     Ok(())
+}
+
+fn main(rt: HostRuntime) -> ExitCode {
+    match run(&rt) {
+        Ok(()) => ExitCode::SUCCESS,
+        Err(Failed) => ExitCode::FAILURE,
+    }
 }

@@ -5,7 +5,7 @@
 mod answer;
 mod class;
 mod reason;
-mod refusal;
+mod refusal_words;
 mod row;
 mod state;
 #[cfg(test)]
@@ -14,6 +14,6 @@ mod tests;
 pub use answer::AnswerWords;
 pub use class::ClassWords;
 pub use reason::{Try, hindrance_words};
-pub use refusal::{FaultWords, RefusalWords};
+pub use refusal_words::{FaultWords, RefusalWords};
 pub use row::RowWords;
 pub use state::StateWords;
