@@ -36,33 +36,17 @@ pub fn play_call<R: Marked, C: Card>(
             Ok(on)
         }
         Call::Run(draw, room) => {
-            let words = run_words(heap, draw, room)?;
+            let text = run_words(heap, draw, room)?;
+            let words = text.as_str();
             let size = room.unwrap_or(20);
-            line(
-                heap,
-                out,
-                words.as_str(),
-                on,
-                radio,
-                card,
-                Made::Run(draw),
-                size,
-            )
+            line(heap, out, words, on, radio, card, Made::Run(draw), size)
         }
         Call::Look => line(heap, out, "look: ", on, radio, card, Made::Look, 0),
         Call::Pick(place) => {
-            let words = format!(in heap; "pick {place}: ")?;
+            let text = format!(in heap; "pick {place}: ")?;
+            let words = text.as_str();
             let at = place as usize;
-            line(
-                heap,
-                out,
-                words.as_str(),
-                on,
-                radio,
-                card,
-                Made::Pick(at),
-                0,
-            )
+            line(heap, out, words, on, radio, card, Made::Pick(at), 0)
         }
         Call::Mode => line(heap, out, "mode: ", on, radio, card, Made::ChangeMode, 0),
         Call::Restart => line(heap, out, "restart: ", on, radio, card, Made::Restart, 0),
