@@ -1,4 +1,4 @@
-ghost use Rattle.std.specs.Prelude.{◌≡◌, ◌≤◌, [], ◌∷◌, ◌++◌, length, take, if◌then◌else◌, nat_lt};
+ghost use Rattle.std.specs.Prelude.{◌≡◌, ◌<◌, ◌≤◌, [], ◌∷◌, ◌++◌, length, take};
 ghost use Rattle.std.specs.Fn.{FnOnceReturnsAtMut};
 ghost use Rattle.bounded.specs.Held.{held};
 
@@ -26,7 +26,8 @@ impl<T: Copy, const N: usize> Bounded<T, N> {
 
     /// One more element, behind the others; one past the `N`th is left out.
     pub fn push(&mut self, item: T)
-        ensures { held self.new ≡ (if nat_lt (length (held self.old)) N then held self.old ++ item ∷ [] else held self.old) }
+        ensures room { length (held self.old) < N → held self.new ≡ held self.old ++ item ∷ [] }
+        ensures full { N ≤ length (held self.old) → held self.new ≡ held self.old }
     {
         let count = self.count;
         if count < N {

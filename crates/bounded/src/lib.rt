@@ -1,6 +1,6 @@
 //! A list of up to N elements in memory of its own: no heap, and a copy that cannot fail.
 
-#![tactic(auto)]
+#![tactic(auto, unfolding(crate::specs::Held::held))]
 
 mod bounded;
 mod items;

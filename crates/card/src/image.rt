@@ -1,11 +1,7 @@
-ghost use Rattle.std.specs.Prelude.{◌≡◌, ◌≤◌, length as size};
+use bounded::Bounded;
 
-/// A file as it was taken from a card: absent, or its bytes in a buffer of the selector's own.
+/// A file as it was taken from a card: absent, or its bytes, held by the selector itself.
 #[derive(Clone, Copy)]
 pub struct FileImage {
-    pub(crate) bytes: [u8; 240],
-    pub(crate) length: usize,
-    pub(crate) present: bool,
-    ghost within: { length ≤ 240 },
-    ghost sized: { size bytes ≡ 240 },
+    pub(crate) held: Option<Bounded<u8, 240>>,
 }

@@ -7,18 +7,14 @@ use refusal::Refusal;
 pub fn read_in(target: &[u8], at: usize) -> Result<u8, Refusal>
     ensures { result ≡ read_in target.now at }
 {
-    if at < target.len() {
-        Ok(target[at])
-    } else {
-        Err(Refusal::OutsideFile)
-    }
+    target.get(at).copied().ok_or(Refusal::OutsideFile)
 }
 
 /// The byte at a place, and 0 where there is none.
 pub fn byte_at(bytes: &[u8], at: usize) -> u8
     ensures { result ≡ slice_index bytes.now at }
 {
-    if at < bytes.len() { bytes[at] } else { 0 }
+    bytes.get(at).copied().unwrap_or(0)
 }
 
 /// Whether a stretch of n bytes lies in a file of this size; an empty one at its end does.

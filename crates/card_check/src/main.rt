@@ -106,7 +106,7 @@ fn print_subscriber(rt: &HostRuntime, s: &Subscriber) -> io::Result<()> {
 }
 
 fn print_refusal(rt: &HostRuntime, e: Refusal) -> io::Result<()> {
-    let n = e.number();
+    let n = u8::from(e);
     match e {
         Refusal::NeededFile(file, _) => println!(rt; "refused {n} {file:04X}"),
         _ => println!(rt; "refused {n}"),

@@ -1,5 +1,6 @@
 -- Codes gathered from lists: all of them, the valid ones, and the home codes.
-use Rattle.std.specs.Prelude.{List, [], ◌∷◌, map, take, filter}
+use Rattle.std.specs.Prelude.{List, [], ◌∷◌, map, filter}
+use Rattle.bounded.specs.Held.{held}
 use Rattle.plmn.specs.Codes.{valid_code}
 use Rattle.plmn.specs.declared.code.Code.{Code}
 use Rattle.entry_list.specs.declared.listed.Listed.{Listed}
@@ -7,7 +8,7 @@ use Rattle.code_list.specs.declared.codes.CodeList.{CodeList}
 
 -- what a `CodeList` holds
 abbrev pub codes_in : CodeList → List Code
-codes_in l = take l.count l.places
+codes_in l = held l.held
 
 -- the code of every entry, holes included
 abbrev pub codes_of : List Listed → List Code

@@ -5,6 +5,7 @@ ghost use Rattle.entry_list.specs.Lists.{list_of};
 ghost use Rattle.code_list.specs.Codes.{codes_in, codes_of, valid_codes, home_codes};
 
 use super::codes::CodeList;
+use bounded::Bounded;
 use entry_list::EntryList;
 use plmn::Code;
 use short_list::ShortList;
@@ -26,48 +27,40 @@ fn remove_in(places: &mut [Code], code: Code)
 impl CodeList {
     /// No code yet.
     pub fn none() -> CodeList
-        ensures codes { codes_in result ≡ [] }
-        ensures count { result.count ≡ 0 }
+        ensures { codes_in result ≡ [] }
     {
         CodeList {
-            places: [Code::EMPTY; 80],
-            count: 0,
+            held: Bounded::new(Code::EMPTY),
         }
     }
 
     fn push(&mut self, code: Code)
-        requires { self.old.count < 80 }
+        requires { length (codes_in self.old) < 80 }
         ensures codes { codes_in self.new ≡ codes_in self.old ++ code ∷ [] }
-        ensures count { self.new.count ≡ self.old.count + 1 }
+        ensures count { length (codes_in self.new) ≡ length (codes_in self.old) + 1 }
     {
-        let count = self.count;
-        self.places[count] = code;
-        self.count = count + 1;
+        self.held.push(code);
     }
 
     /// One code more, behind the others; an eighty-first is left out.
     pub fn add(&mut self, code: Code)
         ensures { codes_in self.new ≡ (if nat_lt (length (codes_in self.old)) 80 then codes_in self.old ++ code ∷ [] else codes_in self.old) }
     {
-        if self.count < 80 {
-            self.push(code);
-        }
+        self.held.push(code);
     }
 
     /// Stores a code by the rule of the short list; a list without places stays.
     pub fn store(&mut self, code: Code)
         ensures { codes_in self.new ≡ stored same_code empty_code code (codes_in self.old) }
     {
-        let n = self.count;
-        store_in(&mut self.places[0..n], code);
+        self.held.edit(|places| store_in(places, code));
     }
 
     /// Empties every place that holds the code.
     pub fn remove(&mut self, code: Code)
         ensures { codes_in self.new ≡ removed same_code empty_code code (codes_in self.old) }
     {
-        let n = self.count;
-        remove_in(&mut self.places[0..n], code);
+        self.held.edit(|places| remove_in(places, code));
     }
 
     /// The codes, in order.
@@ -75,8 +68,7 @@ impl CodeList {
         ensures value { result.now ≡ codes_in self.now }
         ensures small { length result.now ≤ 80 }
     {
-        let count = self.count;
-        &self.places[0..count]
+        self.held.as_slice()
     }
 }
 
@@ -109,7 +101,7 @@ pub fn home_codes(list: &EntryList, imsi_code: Code) -> CodeList
     ensures { codes_in result ≡ home_codes (list_of list.now) imsi_code }
 {
     let mut found = valid_codes(list);
-    if found.count == 0 {
+    if found.codes().is_empty() {
         found.push(imsi_code);
     }
     found

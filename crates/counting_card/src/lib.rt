@@ -45,20 +45,10 @@ fn note(times: &mut [u8; 1680], file: u16, at: usize)
     }
 }
 
-fn larger(a: u8, b: u8) -> u8
-    ensures { result ≡ max a b }
-{
-    if a < b { b } else { a }
-}
-
 fn largest(times: &[u8]) -> u8
     ensures { result ≡ fold max 0 times.now }
 {
-    let mut most = 0;
-    for n in times {
-        most = larger(most, *n);
-    }
-    most
+    times.iter().fold(0, |most, n| most.max(*n))
 }
 
 impl<C: Card> CountingCard<C> {

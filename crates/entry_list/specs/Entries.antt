@@ -1,6 +1,6 @@
 -- What the entries of a list mean, and the first one that serves a code and technologies.
-use Rattle.std.specs.Prelude.{ℕ, ◌+◌, ◌*◌, ◌/◌, Bool, cond, ◌&&◌, List, [], ◌∷◌, map, length, take, drop, Some, None, Option, ◌==◌, slice_index}
-use Rattle.std.specs.List.{range_with_len}
+use Rattle.std.specs.Prelude.{ℕ, ◌+◌, ◌*◌, ◌/◌, Bool, cond, ◌&&◌, List, map, length, take, drop, Option, ◌==◌, slice_index}
+use Rattle.std.specs.List.{range_with_len, position}
 use Rattle.plmn.specs.Codes.{valid_code, same_code}
 use Rattle.plmn.specs.Technologies.{common}
 use Rattle.plmn.specs.declared.code.Code.{Code}
@@ -46,10 +46,5 @@ usable supported e = valid_code e.code && common e.technologies.bits supported
 abbrev pub serves : ℕ → Code → ℕ → Listed → Bool
 serves supported code wanted e = usable supported e && (same_code e.code code && common e.technologies.bits wanted)
 
--- the position of the first element that passes, where the list begins at the position i
-abbrev pub first_from : {X : Type 0} → (X → Bool) → ℕ → List X → Option ℕ
-first_from p i [] = None
-first_from p i (x ∷ xs) = cond (p x) (Some i) (first_from p (i + 1) xs)
-
 abbrev pub first_match : ℕ → Code → ℕ → List Listed → Option ℕ
-first_match supported code wanted es = first_from (serves supported code wanted) 0 es
+first_match supported code wanted es = position (serves supported code wanted) es

@@ -11,20 +11,16 @@ use plmn::{Code, TechnologySet};
 pub trait EntryKind {
     const LENGTH: usize;
 
-    // The number of bytes, for contracts.
-    ghost size: { ℕ };
+    // The same number, for contracts.
+    ghost LENGTH: { ℕ };
 
     ghost meaning: { List ℕ → Listed };
-
-    /// `LENGTH`, with a contract that generic code can use.
-    fn entry_length() -> usize
-        ensures { result ≡ size };
 
     /// The entry with these bytes; bytes that are wanting count as 0.
     fn read(bytes: &[u8]) -> Listed
         ensures { result ≡ meaning bytes.now };
 
-    ghost long: { 3 ≤ size };
+    ghost long: { 3 ≤ LENGTH };
 }
 
 fn code_in(bytes: &[u8]) -> Code
@@ -47,9 +43,7 @@ fn every_if_none(bits: u16) -> TechnologySet
 fn set_in(bytes: &[u8]) -> u16
     ensures { result ≡ set_in bytes.now }
 {
-    let high = byte_at(bytes, 3);
-    let low = byte_at(bytes, 4);
-    u16::from(high) * 256 + u16::from(low)
+    u16::from_be_bytes([byte_at(bytes, 3), byte_at(bytes, 4)])
 }
 
 /// Three bytes: a code that counts for every technology.
@@ -58,15 +52,11 @@ pub struct ShortEntry;
 impl EntryKind for ShortEntry {
     const LENGTH: usize = 3;
 
-    ghost size = { 3 };
+    ghost LENGTH = { 3 };
 
     ghost meaning = { short_entry };
 
     ghost long = { Prim.search rules };
-
-    fn entry_length() -> usize {
-        Self::LENGTH
-    }
 
     fn read(bytes: &[u8]) -> Listed {
         Listed {
@@ -82,15 +72,11 @@ pub struct FullEntry;
 impl EntryKind for FullEntry {
     const LENGTH: usize = 5;
 
-    ghost size = { 5 };
+    ghost LENGTH = { 5 };
 
     ghost meaning = { full_entry };
 
     ghost long = { Prim.search rules };
-
-    fn entry_length() -> usize {
-        Self::LENGTH
-    }
 
     fn read(bytes: &[u8]) -> Listed {
         Listed {

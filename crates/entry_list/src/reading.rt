@@ -1,4 +1,4 @@
-ghost use Rattle.std.specs.Prelude.{◌≡◌, ◌/◌, ◌<◌, ◌≤◌, [], length, take, IfSome};
+ghost use Rattle.std.specs.Prelude.{◌≡◌, ◌<◌, ◌≤◌, length, IfSome};
 ghost use Rattle.card.specs.Files.{bytes_of};
 ghost use Rattle.card.specs.Images.{image_of};
 ghost use Rattle.entry_list.specs.Entries.{entries as entriesOf, usable, serves, first_match};
@@ -7,35 +7,24 @@ ghost use Rattle.entry_list.specs.Lists.{list_of};
 use super::kind::EntryKind;
 use super::list::EntryList;
 use super::listed::Listed;
+use bounded::Bounded;
 use card::FileImage;
 use plmn::{Code, TechnologySet};
-
-/// Reads the whole entries of a file's bytes into the first places.
-fn read_into<K: EntryKind>(bytes: &[u8], count: usize, places: &mut [Listed])
-    requires whole { count ≡ length bytes.now / K.EntryKind.size }
-    requires room { count ≤ length places.old }
-    ensures { take count places.new ≡ entriesOf K.EntryKind.size K.EntryKind.meaning bytes.now }
-{
-    let size = K::entry_length();
-    for i in 0..count {
-        let start = i * size;
-        places[i] = K::read(&bytes[start..start + size]);
-    }
-}
 
 /// Every whole entry of a file's bytes.
 fn read_bytes<K: EntryKind>(bytes: &[u8]) -> EntryList
     requires { length bytes.now ≤ 240 }
-    ensures { list_of result ≡ entriesOf K.EntryKind.size K.EntryKind.meaning bytes.now }
+    ensures { list_of result ≡ entriesOf K.EntryKind.LENGTH K.EntryKind.meaning bytes.now }
 {
     let hole = Listed {
         code: Code::EMPTY,
         technologies: TechnologySet::EVERY,
     };
-    let mut places = [hole; 80];
-    let count = bytes.len() / K::entry_length();
-    read_into::<K>(bytes, count, &mut places);
-    EntryList { places, count }
+    let mut held = Bounded::new(hole);
+    for entry in bytes.chunks_exact(K::LENGTH) {
+        held.push(K::read(entry));
+    }
+    EntryList { held }
 }
 
 /// The position of the first entry that serves; holes and entries that do not count are passed over.
@@ -48,18 +37,15 @@ fn first_match(
     ensures value { result ≡ first_match supported.bits code wanted.bits entries.now }
     ensures within { IfSome result (λ i. i < length entries.now) }
 {
-    for (i, e) in entries.iter().enumerate() {
-        if e.serves(supported, code, wanted) {
-            return Some(i);
-        }
-    }
-    None
+    entries
+        .iter()
+        .position(|e| e.serves(supported, code, wanted))
 }
 
 impl EntryList {
     /// Every whole entry of a file, in order; an absent file has none.
     pub fn read<K: EntryKind>(file: &FileImage) -> EntryList
-        ensures { list_of result ≡ entriesOf K.EntryKind.size K.EntryKind.meaning (bytes_of (image_of file.now)) }
+        ensures { list_of result ≡ entriesOf K.EntryKind.LENGTH K.EntryKind.meaning (bytes_of (image_of file.now)) }
     {
         read_bytes::<K>(file.bytes())
     }
@@ -81,8 +67,7 @@ impl EntryList {
         ensures value { result.now ≡ list_of self.now }
         ensures small { length result.now ≤ 80 }
     {
-        let count = self.count;
-        &self.places[0..count]
+        self.held.as_slice()
     }
 }
 
@@ -98,6 +83,6 @@ impl Listed {
     pub fn serves(self, supported: TechnologySet, code: Code, wanted: TechnologySet) -> bool
         ensures { result ≡ serves supported.bits code wanted.bits self }
     {
-        self.is_usable(supported) && self.code.equals(code) && self.technologies.meets(wanted)
+        self.is_usable(supported) && self.code == code && self.technologies.meets(wanted)
     }
 }

@@ -61,7 +61,7 @@ fn third_digit(imsi: &[u8], mnc_length: u8) -> Option<u8>
     let third = imsi_digit(imsi, 6);
     match mnc_length {
         2 => Some(15),
-        3 => { if third < 10 { Some(third) } else { None } }
+        3 if third < 10 => Some(third),
         _ => None,
     }
 }
@@ -69,13 +69,8 @@ fn third_digit(imsi: &[u8], mnc_length: u8) -> Option<u8>
 fn code_with(imsi: &[u8], third: Option<u8>) -> Option<Code>
     ensures { result ≡ code_with imsi.now third }
 {
-    match third {
-        Some(mnc3) => {
-            let d = imsi_digits(imsi, mnc3);
-            if are_digits(d) { Some(d.code()) } else { None }
-        }
-        None => None,
-    }
+    let digits = imsi_digits(imsi, third?);
+    are_digits(digits).then_some(Code::from(digits))
 }
 
 /// The code of the subscriber's own network, from the bytes of the IMSI file and of the administrative data.
@@ -96,5 +91,5 @@ pub fn registered_code(location: &[u8]) -> Option<Code>
         byte_number(location, 6),
         byte_number(location, 7),
     );
-    if code.is_valid() { Some(code) } else { None }
+    code.is_valid().then_some(code)
 }

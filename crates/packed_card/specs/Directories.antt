@@ -1,5 +1,6 @@
 -- Which entries of a card image's directory are good.
-use Rattle.std.specs.Prelude.{ℕ, ◌+◌, min, max, Bool, true, false, cond, not, ◌&&◌, ◌||◌, List, [], ◌∷◌, ◌++◌, length, take, Some, None, fold, Option, ◌==◌, nat_le, nat_lt, slice_index_or}
+use Rattle.std.specs.Prelude.{ℕ, ◌+◌, min, max, Bool, true, cond, not, ◌&&◌, ◌||◌, List, [], ◌∷◌, ◌++◌, length, take, Some, None, fold, Option, ◌==◌, nat_le, nat_lt, slice_index_or}
+use Rattle.std.specs.List.{list_any, find}
 use Rattle.packed_card.specs.declared.entry.Entry.{Entry}
 
 -- the entry's stretch lies in size bytes and has at most 240
@@ -15,8 +16,7 @@ abbrev pub clash : Entry → Entry → Bool
 clash e f = e.file == f.file || overlap e f
 
 abbrev pub clashes : Entry → List Entry → Bool
-clashes e [] = false
-clashes e (f ∷ fs) = clash e f || clashes e fs
+clashes e fs = list_any (clash e) fs
 
 -- a further entry beside the good ones so far
 abbrev pub admitted : ℕ → List Entry → Entry → List Entry
@@ -27,8 +27,7 @@ abbrev pub goods : ℕ → List Entry → List Entry
 goods size directory = fold (admitted size) [] (take 12 directory)
 
 abbrev pub found : ℕ → List Entry → Option Entry
-found n [] = None
-found n (e ∷ es) = cond (e.file == n) (Some e) (found n es)
+found n es = find (λ e. e.file == n) es
 
 -- no entry clashes with a later one, and none has more than 240 bytes
 abbrev pub sound : List Entry → Bool

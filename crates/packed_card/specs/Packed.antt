@@ -1,5 +1,6 @@
 -- The files of a card image.
 use Rattle.std.specs.Prelude.{ℕ, ◌+◌, cond, List, length, take, drop, Some, None, Option, nat_le}
+use Rattle.bounded.specs.Held.{held}
 use Rattle.card.specs.Files.{File, Files}
 use Rattle.packed_card.specs.declared.entry.Entry.{Entry}
 use Rattle.packed_card.specs.declared.good.GoodEntries.{GoodEntries}
@@ -23,4 +24,4 @@ abbrev pub files_in : List ℕ → List Entry → Files
 files_in image good = λ n. part image (kept (length image) (found n good))
 
 abbrev pub listed : GoodEntries → List Entry
-listed g = take g.count g.entries
+listed g = held g.entries

@@ -4,6 +4,7 @@ ghost use Rattle.packed_card.specs.Packed.{listed as listedIn};
 
 use super::entry::Entry;
 use super::good::GoodEntries;
+use bounded::Bounded;
 
 /// Whether the entry's stretch lies in an image of this size and has at most 240 bytes.
 fn fits(e: Entry, size: usize) -> bool
@@ -32,68 +33,45 @@ fn clash(e: Entry, f: Entry) -> bool
 fn clashes(e: Entry, good: &[Entry]) -> bool
     ensures { result ≡ clashesWith e good.now }
 {
-    for f in good {
-        if clash(e, *f) {
-            return true;
+    good.iter().any(|f| clash(e, *f))
+}
+
+impl GoodEntries {
+    fn none() -> GoodEntries
+        ensures { listedIn result ≡ [] }
+    {
+        let unused = Entry {
+            file: 0,
+            start: 0,
+            length: 0,
+        };
+        GoodEntries {
+            entries: Bounded::new(unused),
         }
     }
-    false
-}
 
-/// One more good entry, behind the others.
-fn joined_by(good: GoodEntries, e: Entry, size: usize) -> GoodEntries
-    requires room { good.count < 12 }
-    requires fits { fitting size e ≡ true }
-    requires apart { clashesWith e (listedIn good) ≡ false }
-    ensures listed { listedIn result ≡ listedIn good ++ e ∷ [] }
-    ensures count { result.count ≡ good.count + 1 }
-{
-    let count = good.count;
-    let mut entries = good.entries;
-    entries[count] = e;
-    GoodEntries {
-        entries,
-        count: count + 1,
+    /// One more good entry, behind the others.
+    fn push(&mut self, e: Entry, size: usize)
+        requires room { length (listedIn self.old) < 12 }
+        requires fits { fitting size e ≡ true }
+        requires apart { clashesWith e (listedIn self.old) ≡ false }
+        ensures listed { listedIn self.new ≡ listedIn self.old ++ e ∷ [] }
+        ensures count { length (listedIn self.new) ≡ length (listedIn self.old) + 1 }
+    {
+        let mut entries = self.entries;
+        entries.push(e);
+        self.entries = entries;
     }
-}
 
-/// Takes a further entry, unless it does not fit or clashes with an earlier good one.
-fn admit(good: GoodEntries, e: Entry, size: usize) -> GoodEntries
-    requires { good.count < 12 }
-    ensures listed { listedIn result ≡ admitted size (listedIn good) e }
-    ensures count { result.count ≤ good.count + 1 }
-{
-    let count = good.count;
-    if fits(e, size) && !clashes(e, &good.entries[0..count]) {
-        joined_by(good, e, size)
-    } else {
-        good
-    }
-}
-
-fn none() -> GoodEntries
-    ensures listed { listedIn result ≡ [] }
-    ensures count { result.count ≡ 0 }
-{
-    let unused = Entry {
-        file: 0,
-        start: 0,
-        length: 0,
-    };
-    GoodEntries {
-        entries: [unused; 12],
-        count: 0,
-    }
-}
-
-fn first_twelve(directory: &[Entry]) -> &[Entry]
-    ensures value { result.now ≡ take 12 directory.now }
-    ensures small { length result.now ≤ 12 }
-{
-    if directory.len() > 12 {
-        &directory[0..12]
-    } else {
-        directory
+    /// Takes a further entry, unless it does not fit or clashes with an earlier good one.
+    fn admit(&mut self, e: Entry, size: usize)
+        requires { length (listedIn self.old) < 12 }
+        ensures listed { listedIn self.new ≡ admitted size (listedIn self.old) e }
+        ensures count { length (listedIn self.new) ≤ length (listedIn self.old) + 1 }
+    {
+        if fits(e, size) && !clashes(e, self.entries.as_slice()) {
+            self.push(e, size);
+        }
     }
 }
 
@@ -101,9 +79,9 @@ fn first_twelve(directory: &[Entry]) -> &[Entry]
 pub fn good_entries(directory: &[Entry], size: usize) -> GoodEntries
     ensures { listedIn result ≡ goodsOf size directory.now }
 {
-    let mut good = none();
-    for e in first_twelve(directory) {
-        good = admit(good, *e, size);
+    let mut good = GoodEntries::none();
+    for e in &directory[..directory.len().min(12)] {
+        good.admit(*e, size);
     }
     good
 }

@@ -13,12 +13,7 @@ use refusal::Refusal;
 fn find(good: &[Entry], file: u16) -> Option<Entry>
     ensures { result ≡ foundIn file good.now }
 {
-    for e in good {
-        if e.file == file {
-            return Some(*e);
-        }
-    }
-    None
+    good.iter().copied().find(|e| e.file == file)
 }
 
 /// The entry of a file, where the image has it.
@@ -26,8 +21,7 @@ fn lookup(good: &GoodEntries, size: usize, file: u16) -> Option<Entry>
     ensures value { result ≡ keptIn size (foundIn file (listedIn good.now)) }
     ensures within { IfSome result (λ e. e.start + e.length ≤ size) }
 {
-    let count = good.count;
-    let e = find(&good.entries[0..count], file)?;
+    let e = find(good.entries.as_slice(), file)?;
     if e.start <= size && e.length <= size - e.start {
         Some(e)
     } else {
@@ -39,34 +33,21 @@ fn lookup(good: &GoodEntries, size: usize, file: u16) -> Option<Entry>
 fn number_at(good: &[Entry], place: usize) -> Option<u16>
     ensures { result ≡ file_at place good.now }
 {
-    if place < good.len() {
-        Some(good[place].file)
-    } else {
-        None
-    }
+    good.get(place).map(|e| e.file)
 }
 
 fn length_in(image: &[u8], good: &GoodEntries, file: u16) -> Option<usize>
     ensures value { result ≡ length_of (files_in image.now (listedIn good.now) file) }
     ensures small { size_of (files_in image.now (listedIn good.now) file) ≤ 240 }
 {
-    match lookup(good, image.len(), file) {
-        Some(e) => Some(e.length),
-        None => None,
-    }
+    lookup(good, image.len(), file).map(|e| e.length)
 }
 
 fn byte_in(image: &[u8], good: &GoodEntries, file: u16, at: usize) -> Result<u8, Refusal>
     ensures { result ≡ byte_of (files_in image.now (listedIn good.now) file) at }
 {
-    match lookup(good, image.len(), file) {
-        Some(e) => {
-            let start = e.start;
-            let end = start + e.length;
-            read_in(&image[start..end], at)
-        }
-        None => Err(Refusal::NoFile),
-    }
+    let e = lookup(good, image.len(), file).ok_or(Refusal::NoFile)?;
+    read_in(&image[e.start..e.start + e.length], at)
 }
 
 fn update_in(
@@ -79,14 +60,10 @@ fn update_in(
     ensures answer { result ≡ update_answer start bytes.now (files_in image.old (listedIn good.now) file) }
     ensures after { files_in image.new (listedIn good.now) ≡ written file start bytes.now (files_in image.old (listedIn good.now)) }
 {
-    match lookup(good, image.len(), file) {
-        Some(e) => {
-            let from = e.start;
-            let end = from + e.length;
-            write_in(&mut image[from..end], start, bytes)
-        }
-        None => Err(Refusal::NoFile),
-    }
+    let Some(e) = lookup(good, image.len(), file) else {
+        return Err(Refusal::NoFile);
+    };
+    write_in(&mut image[e.start..e.start + e.length], start, bytes)
 }
 
 /// The good entries of a directory over this image.
@@ -120,8 +97,7 @@ impl<'a> PackedCard<'a> {
     pub fn file_at(&self, place: usize) -> Option<u16>
         ensures { result ≡ file_at place (listedIn self.now.good) }
     {
-        let count = self.good.count;
-        number_at(&self.good.entries[0..count], place)
+        number_at(self.good.entries.as_slice(), place)
     }
 
     fn length_of(&self, file: u16) -> Option<usize>

@@ -1,6 +1,7 @@
 -- The technologies by number and by bit, and the sets that a selector can support.
-use Rattle.std.specs.Prelude.{ℕ, Bool, false, cond, not, ◌&&◌, Some, None, Option, ◌==◌, bit_and}
+use Rattle.std.specs.Prelude.{ℕ, Bool, false, cond, not, ◌&&◌, Some, None, Option, Result, MatchResult, ◌≡◌, ◌==◌, bit_and}
 use Rattle.plmn.specs.declared.technology.Technology.{Technology}
+use Rattle.plmn.specs.declared.technology.UnknownTechnology.{UnknownTechnology}
 use Rattle.plmn.specs.declared.technology.Technology.TheVariants.{Gsm, Utran, Eutran}
 
 abbrev pub number_of : Technology → ℕ
@@ -10,6 +11,10 @@ number_of Eutran = 7
 
 abbrev pub with_number : ℕ → Option Technology
 with_number n = cond (n == 0) (Some Gsm) (cond (n == 2) (Some Utran) (cond (n == 7) (Some Eutran) None))
+
+-- a number gives its technology, or else itself as one that stands for none
+abbrev pub Numbers : ℕ → Result Technology UnknownTechnology → Type 0
+Numbers n r = MatchResult r (λ t. with_number n ≡ Some t) (λ e. (with_number n ≡ None) × (e.0 ≡ n))
 
 abbrev pub bit_of : Technology → ℕ
 bit_of Gsm = 0x0080

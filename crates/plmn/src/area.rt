@@ -11,6 +11,14 @@ pub struct Area {
     pub number: u16,
 }
 
+impl Area {
+    /// The empty area: the empty code with 0.
+    pub const EMPTY: Area = Area {
+        code: Code::EMPTY,
+        number: 0,
+    };
+}
+
 impl Same for Area {
     ghost alike = { same_area };
 
@@ -23,9 +31,6 @@ impl Element for Area {
     ghost blank = { empty_area };
 
     fn empty() -> Area {
-        Area {
-            code: Code::EMPTY,
-            number: 0,
-        }
+        Area::EMPTY
     }
 }

@@ -60,24 +60,11 @@ impl Code {
         }
     }
 
-    pub fn digits(self) -> Digits
-        ensures { result ≡ digits_of self }
-    {
-        Digits {
-            mcc1: low_half(self.first),
-            mcc2: high_half(self.first),
-            mcc3: low_half(self.second),
-            mnc1: low_half(self.third),
-            mnc2: high_half(self.third),
-            mnc3: high_half(self.second),
-        }
-    }
-
     /// Whether MNC digit 3 is 0 to 9 or F, and the other five digits are 0 to 9. The empty code is not valid.
     pub fn is_valid(self) -> bool
         ensures { result ≡ valid_code self }
     {
-        let d = self.digits();
+        let d = Digits::from(self);
         is_digit(d.mcc1)
             && is_digit(d.mcc2)
             && is_digit(d.mcc3)
@@ -86,30 +73,39 @@ impl Code {
             && (is_digit(d.mnc3) || d.mnc3 == 15)
     }
 
-    /// Whether the bytes are equal.
-    pub fn equals(self, other: Code) -> bool
-        ensures { result ≡ same_code self other }
-    {
-        self == other
-    }
-
     /// Whether both are the same valid code: an invalid code matches nothing.
     pub fn matches(self, other: Code) -> bool
         ensures { result ≡ matching self other }
     {
-        self.is_valid() && self.equals(other)
+        self.is_valid() && self == other
     }
 }
 
-impl Digits {
-    /// The code with these digits; of each only the low half counts.
-    pub fn code(self) -> Code
-        ensures { result ≡ code_of self }
-    {
+/// The six half bytes of a code, each as the digit that it holds.
+impl From<Code> for Digits {
+    ghost from_gives = { λ code digits. digits ≡ digits_of code };
+
+    fn from(code: Code) -> Digits {
+        Digits {
+            mcc1: low_half(code.first),
+            mcc2: high_half(code.first),
+            mcc3: low_half(code.second),
+            mnc1: low_half(code.third),
+            mnc2: high_half(code.third),
+            mnc3: high_half(code.second),
+        }
+    }
+}
+
+/// The code with these digits; of each only the low half counts.
+impl From<Digits> for Code {
+    ghost from_gives = { λ digits code. code ≡ code_of digits };
+
+    fn from(digits: Digits) -> Code {
         Code {
-            first: low_half(self.mcc2) * 16 + low_half(self.mcc1),
-            second: low_half(self.mnc3) * 16 + low_half(self.mcc3),
-            third: low_half(self.mnc2) * 16 + low_half(self.mnc1),
+            first: low_half(digits.mcc2) * 16 + low_half(digits.mcc1),
+            second: low_half(digits.mnc3) * 16 + low_half(digits.mcc3),
+            third: low_half(digits.mnc2) * 16 + low_half(digits.mnc1),
         }
     }
 }

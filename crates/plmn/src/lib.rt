@@ -12,4 +12,4 @@ pub use area::Area;
 pub use code::{Code, Digits, high_half, low_half};
 pub use row::Row;
 pub use settings::Settings;
-pub use technology::{Technology, TechnologySet};
+pub use technology::{Technology, TechnologySet, UnknownTechnology};

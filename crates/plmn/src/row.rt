@@ -15,13 +15,23 @@ pub struct Row {
 }
 
 impl Row {
-    /// The area that the row lies in.
-    pub fn in_area(self) -> Area
-        ensures { result ≡ area_of self }
-    {
+    /// A row of the empty code, which stands where no row is.
+    pub const NONE: Row = Row {
+        code: Code::EMPTY,
+        technology: 0,
+        area: 0,
+        level: 0,
+    };
+}
+
+/// The area that a row lies in.
+impl From<Row> for Area {
+    ghost from_gives = { λ row area. area ≡ area_of row };
+
+    fn from(row: Row) -> Area {
         Area {
-            code: self.code,
-            number: self.area,
+            code: row.code,
+            number: row.area,
         }
     }
 }

@@ -1,5 +1,8 @@
 ghost use Rattle.std.specs.Prelude.{◌≡◌, Bool};
-ghost use Rattle.plmn.specs.Technologies.{number_of, with_number, bit_of, common, has_technology, has_number};
+ghost use Rattle.plmn.specs.Technologies.{number_of, Numbers, bit_of, common, has_technology, has_number};
+
+use std::error::Error;
+use std::fmt;
 
 /// The radio technologies that the selector knows. Every other number is kept as it is and never supported.
 #[derive(Clone, Copy, PartialEq, Eq)]
@@ -15,34 +18,43 @@ pub struct TechnologySet {
     pub bits: u16,
 }
 
-impl Technology {
-    /// The technology with this number, where the selector knows one.
-    pub fn with_number(number: u8) -> Option<Technology>
-        ensures { result ≡ with_number number }
-    {
+/// A number that stands for no technology that the selector knows.
+#[derive(Clone, Copy, Debug, PartialEq, Eq)]
+pub struct UnknownTechnology(pub u8);
+
+impl TryFrom<u8> for Technology {
+    type Error = UnknownTechnology;
+
+    ghost try_from_gives = { Numbers };
+
+    fn try_from(number: u8) -> Result<Technology, UnknownTechnology> {
         match number {
-            0 => Some(Technology::Gsm),
-            2 => Some(Technology::Utran),
-            7 => Some(Technology::Eutran),
-            _ => None,
+            0 => Ok(Technology::Gsm),
+            2 => Ok(Technology::Utran),
+            7 => Ok(Technology::Eutran),
+            _ => Err(UnknownTechnology(number)),
         }
     }
+}
 
-    pub fn number(self) -> u8
-        ensures { result ≡ number_of self }
-    {
-        match self {
+impl From<Technology> for u8 {
+    ghost from_gives = { λ technology number. number ≡ number_of technology };
+
+    fn from(technology: Technology) -> u8 {
+        match technology {
             Technology::Gsm => 0,
             Technology::Utran => 2,
             Technology::Eutran => 7,
         }
     }
+}
 
-    /// The set of this technology alone.
-    pub fn alone(self) -> TechnologySet
-        ensures { result.bits ≡ bit_of self }
-    {
-        let bits = match self {
+/// The set of this technology alone.
+impl From<Technology> for TechnologySet {
+    ghost from_gives = { λ technology set. set.bits ≡ bit_of technology };
+
+    fn from(technology: Technology) -> TechnologySet {
+        let bits = match technology {
             Technology::Gsm => 0x0080,
             Technology::Utran => 0x8000,
             Technology::Eutran => 0x4000,
@@ -50,6 +62,14 @@ impl Technology {
         TechnologySet { bits }
     }
 }
+
+impl fmt::Display for UnknownTechnology {
+    fn fmt<W: fmt::Write>(&self, f: &mut fmt::Formatter<W>) -> fmt::Result {
+        write!(f, "no known technology has the number {}", self.0)
+    }
+}
+
+impl Error for UnknownTechnology {}
 
 impl TechnologySet {
     /// Every bit: what an entry means that names no set.
@@ -65,16 +85,16 @@ impl TechnologySet {
     pub fn has(self, technology: Technology) -> bool
         ensures { result ≡ has_technology self.bits technology }
     {
-        self.meets(technology.alone())
+        self.meets(TechnologySet::from(technology))
     }
 
     /// Whether the technology with this number is in the set; a number that the selector does not know is in none.
     pub fn has_number(self, number: u8) -> bool
         ensures { result ≡ has_number self.bits number }
     {
-        match Technology::with_number(number) {
-            Some(technology) => self.has(technology),
-            None => false,
+        match Technology::try_from(number) {
+            Ok(technology) => self.has(technology),
+            Err(_) => false,
         }
     }
 }

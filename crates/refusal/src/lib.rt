@@ -41,12 +41,12 @@ pub enum Refusal {
     NoRow,
 }
 
-impl Refusal {
-    /// The number by which a refusal is known outside.
-    pub fn number(self) -> u8
-        ensures { result ≡ number_of self }
-    {
-        match self {
+/// The number by which a refusal is known outside.
+impl From<Refusal> for u8 {
+    ghost from_gives = { λ refusal number. number ≡ number_of refusal };
+
+    fn from(refusal: Refusal) -> u8 {
+        match refusal {
             Refusal::Technologies => 1,
             Refusal::NeededFile(_, _) => 2,
             Refusal::HomeDigits => 3,

@@ -2,7 +2,9 @@
 use Rattle.std.proofs.Common.{◌≡◌, ℕ, zero, suc, ◌+◌, ◌<◌, Bool, true, false, ◌⊎◌, List, [], ◌∷◌, ◌++◌, length, get_or, set, Some, None, Decides, Option, sym, refl, ap, ◌∙◌, subst, inl, inr, ⊎_elim, add-one, arith}
 use Rattle.std.proofs.lemmas.List.{length-set, length-map, length_push, get_or-set_same, get_or-set_other, get_or_default, get_or_push, get_or_append_left, get_or-map}
 use Rattle.std.proofs.lemmas.Bool.{cond-true, cond-false, cases_Bool, cases_eq, or_cases, or_left, or_right, both_ways}
-use Rattle.short_list.specs.Places.{held_in, first_from, first_of, shifted, placed, stored, emptied, removed}
+use Rattle.std.specs.List.{position_from}
+use Rattle.std.proofs.lemmas.Iterator.Adapters.{position_from-zero}
+use Rattle.short_list.specs.Places.{held_in, first_of, shifted, placed, stored, emptied, removed}
 use Rattle.short_list.specs.Laws.{Held, Full, Storing, Removing}
 
 -- x stands at the place i, and at none before it
@@ -38,23 +40,23 @@ module _ {X : Type 0} (like : X → X → Bool) (dec : (x y : X) → Decides (li
   first_later x y ys n ne rest zero d l e = ne e
   first_later x y ys n ne rest (suc k) d l e = rest k d (omega arith) e
 
-  first_some : (x : X) (i : ℕ) (xs : List X) (j : ℕ) → first_from like x i xs ≡ Some j → (n : ℕ) × (i + n ≡ j) × First x xs n
+  first_some : (x : X) (i : ℕ) (xs : List X) (j : ℕ) → position_from (λ y. like y x) i xs ≡ Some j → (n : ℕ) × (i + n ≡ j) × First x xs n
   first_some x i [] j h = absurd (none_some j h)
   first_some x i (y ∷ ys) j h =
       ⊎_elim
       (λ (a : like y x ≡ true).
-      (0, (let e = same_some i j (sym (cond-true (like y x) (Some i) (first_from like x (i + 1) ys) a) ∙ h) in omega arith), (omega arith, (dec y x).0 a, λ k d l. absurd (omega arith))))
+      (0, (let e = same_some i j (sym (cond-true (like y x) (Some i) (position_from (λ y. like y x) (i + 1) ys) a) ∙ h) in omega arith), (omega arith, (dec y x).0 a, λ k d l. absurd (omega arith))))
       (λ (a : like y x ≡ false).
-      let p = first_some x (i + 1) ys j (sym (cond-false (like y x) (Some i) (first_from like x (i + 1) ys) a) ∙ h) in
+      let p = first_some x (i + 1) ys j (sym (cond-false (like y x) (Some i) (position_from (λ y. like y x) (i + 1) ys) a) ∙ h) in
       (suc p.0, omega (arith, p.1), (omega (arith, p.2.0), p.2.1, first_later x y ys p.0 (differ y x a) p.2.2)))
       (cases_Bool (like y x))
 
-  first_none : (x : X) (i : ℕ) (xs : List X) → first_from like x i xs ≡ None → held_in like x xs ≡ false
+  first_none : (x : X) (i : ℕ) (xs : List X) → position_from (λ y. like y x) i xs ≡ None → held_in like x xs ≡ false
   first_none x i [] h = refl
   first_none x i (y ∷ ys) h =
       ⊎_elim
-      (λ (a : like y x ≡ true). absurd (none_some i (sym h ∙ cond-true (like y x) (Some i) (first_from like x (i + 1) ys) a)))
-      (λ (a : like y x ≡ false). rw a (first_none x (i + 1) ys (sym (cond-false (like y x) (Some i) (first_from like x (i + 1) ys) a) ∙ h)))
+      (λ (a : like y x ≡ true). absurd (none_some i (sym h ∙ cond-true (like y x) (Some i) (position_from (λ y. like y x) (i + 1) ys) a)))
+      (λ (a : like y x ≡ false). rw a (first_none x (i + 1) ys (sym (cond-false (like y x) (Some i) (position_from (λ y. like y x) (i + 1) ys) a) ∙ h)))
       (cases_Bool (like y x))
 
   -- where the first empty place is i
@@ -104,9 +106,9 @@ module _ {X : Type 0} (like : X → X → Bool) (dec : (x y : X) → Decides (li
       }
 
   placed_by : (blank x : X) (xs : List X) (o : Option ℕ) → first_of like blank xs ≡ o → (Held x xs → ⊥) → Storing blank x xs (placed x xs o)
-  placed_by blank x xs None e new = shifted_by_one blank x xs new (not_held blank xs (first_none blank 0 xs e))
+  placed_by blank x xs None e new = shifted_by_one blank x xs new (not_held blank xs (first_none blank 0 xs (sym (position_from-zero (λ y. like y blank) xs) ∙ e)))
   placed_by blank x xs (Some i) e new =
-      let p = first_some blank 0 xs i e in
+      let p = first_some blank 0 xs i (sym (position_from-zero (λ y. like y blank) xs) ∙ e) in
       stored_at blank x xs i new (subst (First blank xs) (let q : p.0 ≡ i = omega (arith, p.1) in q) p.2)
 
   pub storing : (blank x : X) (xs : List X) → Storing blank x xs (stored like blank x xs)

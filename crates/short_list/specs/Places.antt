@@ -1,21 +1,17 @@
 -- What asking, storing and removing mean on a list of places. `like` tells whether two elements are the same, and
 -- `blank` is the element of an empty place.
-use Rattle.std.specs.Prelude.{ℕ, ◌+◌, Bool, false, cond, ◌||◌, List, [], ◌∷◌, ◌++◌, map, Some, None, Ok, Err, Option, Result, slice_set}
+use Rattle.std.specs.Prelude.{ℕ, Bool, cond, List, [], ◌∷◌, ◌++◌, map, Some, None, Ok, Err, Option, Result, slice_set}
+use Rattle.std.specs.List.{list_any, position}
 use Rattle.refusal.specs.declared.Refusal.{Refusal}
 use Rattle.refusal.specs.declared.Refusal.TheVariants.{NoPlaces}
 
 -- some place holds x
 abbrev pub held_in : {X : Type 0} → (X → X → Bool) → X → List X → Bool
-held_in like x [] = false
-held_in like x (y ∷ ys) = like y x || held_in like x ys
+held_in like x xs = list_any (λ y. like y x) xs
 
--- the first place that holds x, where the list begins at the place i
-abbrev pub first_from : {X : Type 0} → (X → X → Bool) → X → ℕ → List X → Option ℕ
-first_from like x i [] = None
-first_from like x i (y ∷ ys) = cond (like y x) (Some i) (first_from like x (i + 1) ys)
-
+-- the first place that holds x
 abbrev pub first_of : {X : Type 0} → (X → X → Bool) → X → List X → Option ℕ
-first_of like x xs = first_from like x 0 xs
+first_of like x xs = position (λ y. like y x) xs
 
 -- the list shifts down by one: its first element is lost, and x stands last
 abbrev pub shifted : {X : Type 0} → X → List X → List X

@@ -11,22 +11,11 @@ fn is_same<T: Same>(held: T, x: T) -> bool
     held == x
 }
 
-fn any_holds<T: Same>(places: &[T], x: T) -> bool
-    ensures { result ≡ held_in T.Same.alike x places.now }
-{
-    for p in places {
-        if is_same(*p, x) {
-            return true;
-        }
-    }
-    false
-}
-
 /// Whether some place holds x.
 pub fn holds_in<T: Same>(places: &[T], x: T) -> bool
     ensures { result ≡ held_in T.Same.alike x places.now }
 {
-    any_holds(places, x)
+    places.iter().any(|held| is_same(*held, x))
 }
 
 /// The first place that holds x.
@@ -34,12 +23,7 @@ fn first_in<T: Same>(places: &[T], x: T) -> Option<usize>
     ensures value { result ≡ first_of T.Same.alike x places.now }
     ensures within { IfSome result (λ i. i < length places.now) }
 {
-    for (i, p) in places.iter().enumerate() {
-        if is_same(*p, x) {
-            return Some(i);
-        }
-    }
-    None
+    places.iter().position(|held| is_same(*held, x))
 }
 
 /// Every element moves down by one place, the first is lost, and x stands last.
@@ -57,7 +41,7 @@ pub(crate) fn store_in<T: Element>(places: &mut [T], x: T) -> Result<(), Refusal
     ensures answer { result ≡ store_answer places.old }
     ensures places { places.new ≡ stored T.Same.alike T.Element.blank x places.old }
 {
-    if places.len() == 0 {
+    if places.is_empty() {
         return Err(Refusal::NoPlaces);
     }
     if holds_in(places, x) {

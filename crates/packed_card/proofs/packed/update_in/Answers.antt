@@ -7,8 +7,8 @@ use Rattle.packed_card.specs.declared.entry.Entry.{Entry}
 use Rattle.packed_card.proofs.Stretches.{part_length, files_written, files_refused}
 use Rattle.packed_card.proofs.packed.update_in.Goals as goal
 
-pub returns-in-Some : goal.returns-in-Some
-returns-in-Some c =
+pub returns : goal.returns
+returns c =
     let s : ℕ = c.in-Some.e.start in
     let n : ℕ = c.in-Some.e.length in
     let xs : List ℕ = c.args.image.now in
@@ -26,11 +26,12 @@ returns-in-Some c =
           (files_written c.args.file c.args.start bs good xs ys c.in-Some.e (sound_spread good c.args.good.now.apart).0 (sym c.in-Some.ensures.value) ly is);
     }
 
-pub returns-in-None : goal.returns-in-None
-returns-in-None c =
+pub returns-in_default : goal.returns-in_default
+returns-in_default c =
     let xs : List ℕ = c.args.image.now in
     let good : List Entry = listed c.args.good.now in
+    let e = sym c.in_default.is ∙ c.lookup.ensures.value in
     record {
-      answer = ap (λ o. update_answer c.args.start c.args.bytes.now (part xs o)) c.in-None.ensures.value;
-      after = files_refused c.args.file c.args.start c.args.bytes.now (files_in xs good) (sym (ap (part xs) c.in-None.ensures.value));
+      answer = ap (λ o. update_answer c.args.start c.args.bytes.now (part xs o)) e;
+      after = files_refused c.args.file c.args.start c.args.bytes.now (files_in xs good) (sym (ap (part xs) e));
     }

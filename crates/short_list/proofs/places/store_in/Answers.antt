@@ -2,5 +2,5 @@ use Rattle.std.proofs.Common.{rules}
 use Rattle.short_list.proofs.Lemmas.{stored_none}
 use Rattle.short_list.proofs.places.store_in.Goals as goal
 
-pub returns-then-places-eq0 : goal.returns-then-places-eq0
-returns-then-places-eq0 g c = search (rules, stored_none)
+pub returns-then-is_empty : goal.returns-then-is_empty
+returns-then-is_empty g c = search (rules, stored_none)
