@@ -37,7 +37,7 @@ fn serve_and_tell<R: Registrar, C: Card, W: Recorder>(
 fn room_at(rooms: &[usize], i: usize) -> usize
     ensures { result ≡ slice_index rooms.now i }
 {
-    if i < rooms.len() { rooms[i] } else { 0 }
+    rooms.get(i).copied().unwrap_or(0)
 }
 
 /// Plays calls on a new selector, switched on, and switches it off at the end. The recorder is told after every call.

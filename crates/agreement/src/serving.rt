@@ -43,10 +43,7 @@ fn serve_run<R: Registrar, C: Card>(
 fn tries_of(outcome: Result<RunAnswer, Refusal>) -> usize
     ensures { result ≡ tries_in outcome }
 {
-    match outcome {
-        Ok(answer) => answer.tries,
-        Err(_) => 0,
-    }
+    outcome.map_or(0, |answer| answer.tries)
 }
 
 /// Makes a call, and lends a run the first numbers of the trail: `room` of them, or all if there are fewer.

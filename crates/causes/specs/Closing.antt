@@ -1,5 +1,6 @@
 -- Which answers end a run, and which rows an answer closes for the rest of the run.
-use Rattle.std.specs.Prelude.{Bool, true, false, ◌&&◌, ◌||◌, List, [], ◌∷◌, eqb}
+use Rattle.std.specs.Prelude.{Bool, true, false, ◌&&◌, List, eqb}
+use Rattle.std.specs.List.{list_any}
 use Rattle.plmn.specs.Codes.{same_code}
 use Rattle.plmn.specs.declared.row.Row.{Row}
 use Rattle.radio.specs.declared.answer.Answer.{Answer}
@@ -34,5 +35,4 @@ closes h b = closes_by h.answer h.row b
 
 -- some of what was heard closes the row
 abbrev pub closed : List Heard → Row → Bool
-closed [] b = false
-closed (h ∷ hs) b = closes h b || closed hs b
+closed hs b = list_any (λ h. closes h b) hs

@@ -3,7 +3,7 @@ ghost use Rattle.plmn.specs.Codes.{same_code};
 ghost use Rattle.causes.specs.Closing.{ends, shuts, closes};
 
 use super::cause::{Effect, rule_of};
-use plmn::Row;
+use plmn::{Area, Row};
 use radio::Answer;
 
 /// A row that was tried, and what its network answered.
@@ -17,7 +17,7 @@ pub struct Heard {
 fn same_area(a: Row, b: Row) -> bool
     ensures { result ≡ (same_code a.code b.code && eqb a.area b.area) }
 {
-    a.code.equals(b.code) && a.area == b.area
+    Area::from(a) == Area::from(b)
 }
 
 /// Whether a rejection of one row with this effect closes another.
@@ -25,11 +25,9 @@ fn shuts_row(effect: Effect, tried: Row, row: Row) -> bool
     ensures { result ≡ shuts effect tried row }
 {
     match effect {
-        Effect::Forbid => tried.code.equals(row.code),
+        Effect::Forbid => tried.code == row.code,
         Effect::Roaming => same_area(tried, row),
-        Effect::Nothing => false,
-        Effect::Lock => false,
-        Effect::Regional => false,
+        Effect::Nothing | Effect::Lock | Effect::Regional => false,
     }
 }
 
@@ -50,9 +48,8 @@ impl Heard {
         ensures { result ≡ closes self row }
     {
         match self.answer {
-            Answer::Acceptance(_) => false,
             Answer::Rejection(cause) => shuts_row(rule_of(cause).effect, self.row, row),
-            Answer::Silence => false,
+            Answer::Acceptance(_) | Answer::Silence => false,
         }
     }
 }

@@ -1,5 +1,6 @@
 -- What the answers of tried rows make of a selector and its card.
-use Rattle.std.specs.Prelude.{ℕ, min, Bool, true, false, cond, ◌||◌, List, [], ◌∷◌, length, Some, None, fold, Option, nat_lt}
+use Rattle.std.specs.Prelude.{ℕ, min, Bool, true, false, cond, List, [], length, Some, None, fold, Option, nat_lt}
+use Rattle.std.specs.List.{list_any}
 use Rattle.plmn.specs.declared.code.Code.{Code}
 use Rattle.plmn.specs.declared.row.Row.{Row}
 use Rattle.card.specs.Files.{Files, written, forbidden_file}
@@ -49,8 +50,7 @@ touches (Rejection cause) = touches_by (effect_of cause)
 touches Silence = false
 
 abbrev pub any_touches : List Heard → Bool
-any_touches [] = false
-any_touches (h ∷ hs) = touches h.answer || any_touches hs
+any_touches hs = list_any (λ h. touches h.answer) hs
 
 -- the equivalents and the location after tries that ended with this answer
 abbrev pub equivalents_by : List Cell → ℕ → Answer → List Code

@@ -15,7 +15,7 @@ fn state_by_effect(effect: Effect, row: Row) -> State
 {
     match effect {
         Effect::Lock => State::Locked,
-        _ => State::Limited(Serving::of(row)),
+        _ => State::Limited(Serving::from(row)),
     }
 }
 
@@ -25,9 +25,9 @@ pub fn state_by(end: Option<Heard>, otherwise: State) -> State
 {
     match end {
         Some(h) => match h.answer {
-            Answer::Acceptance(_) => State::Registered(Serving::of(h.row)),
+            Answer::Acceptance(_) => State::Registered(Serving::from(h.row)),
             Answer::Rejection(cause) => state_by_effect(rule_of(cause).effect, h.row),
-            Answer::Silence => State::Limited(Serving::of(h.row)),
+            Answer::Silence => State::Limited(Serving::from(h.row)),
         },
         None => otherwise,
     }
@@ -50,12 +50,7 @@ fn touches(h: Heard) -> bool
 fn any_touches(heard: &[Heard]) -> bool
     ensures { result ≡ any_touches heard.now }
 {
-    for h in heard {
-        if touches(*h) {
-            return true;
-        }
-    }
-    false
+    heard.iter().any(|h| touches(*h))
 }
 
 /// Writes the forbidden list back where an answer can have changed it.
@@ -74,8 +69,7 @@ pub fn keep_location<C: Card>(card: &mut C, end: Option<Heard>)
     match end {
         Some(h) => match h.answer {
             Answer::Acceptance(_) => write_location(card, h.row.code, h.row.area),
-            Answer::Rejection(_) => clear_location(card),
-            Answer::Silence => clear_location(card),
+            Answer::Rejection(_) | Answer::Silence => clear_location(card),
         },
         None => clear_location(card),
     }
@@ -89,8 +83,7 @@ pub fn equivalents_by<R: Registrar>(radio: &mut R, place: usize, end: Option<Hea
     match end {
         Some(h) => match h.answer {
             Answer::Acceptance(n) => accepted_codes(radio, place, n),
-            Answer::Rejection(_) => CodeList::none(),
-            Answer::Silence => CodeList::none(),
+            Answer::Rejection(_) | Answer::Silence => CodeList::none(),
         },
         None => CodeList::none(),
     }

@@ -1,2 +1,1 @@
-pub mod Triples
 pub mod Valid

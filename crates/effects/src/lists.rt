@@ -31,15 +31,14 @@ impl Lists {
         ensures { lists_of self.new ≡ by_effect home.now (lists_of self.old) row effect }
     {
         match effect {
-            Effect::Nothing => {}
-            Effect::Lock => {}
+            Effect::Nothing | Effect::Lock => {}
             Effect::Forbid => {
                 if !holds_in(home, row.code) {
                     self.forbidden.store(row.code);
                 }
             }
-            Effect::Regional => store_area(&mut self.regional, row.in_area()),
-            Effect::Roaming => store_area(&mut self.roaming, row.in_area()),
+            Effect::Regional => store_area(&mut self.regional, Area::from(row)),
+            Effect::Roaming => store_area(&mut self.roaming, Area::from(row)),
         }
     }
 
@@ -53,23 +52,15 @@ impl Lists {
             Answer::Silence => {}
         }
     }
-}
 
-fn hear_each(lists: Lists, home: &[Code], heard: &[Heard]) -> Lists
-    ensures { lists_of result ≡ fold (affected home.now) (lists_of lists) heard.now }
-{
-    let mut after = lists;
-    for h in heard {
-        after.hear(home, *h);
-    }
-    after
-}
-
-impl Lists {
     /// What the answers of tried rows do to the lists, in the order of the tries.
     pub fn hear_all(self, home: &[Code], heard: &[Heard]) -> Lists
         ensures { lists_of result ≡ fold (affected home.now) (lists_of self) heard.now }
     {
-        hear_each(self, home, heard)
+        let mut lists = self;
+        for h in heard {
+            lists.hear(home, *h);
+        }
+        lists
     }
 }

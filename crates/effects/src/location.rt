@@ -15,8 +15,7 @@ fn update_location<C: Card>(card: &mut C, place: [u8; 5], status: u8)
 pub fn write_location<C: Card>(card: &mut C, code: Code, area: u16)
     ensures { C.Card.files card.new ≡ registered_at code area (C.Card.files card.old) }
 {
-    let high = (area / 256) as u8;
-    let low = (area % 256) as u8;
+    let [high, low] = area.to_be_bytes();
     let place = [code.first, code.second, code.third, high, low];
     update_location(card, place, 0);
 }

@@ -1,2 +1,1 @@
 pub mod AllowedRows
-pub mod Numbering

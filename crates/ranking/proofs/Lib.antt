@@ -1,10 +1,12 @@
 pub mod Apart
 pub mod Arranged
 pub mod Blocks
+pub mod Derived
 pub mod Drawing
-pub mod Entry
 pub mod Lawful
 pub mod Numbers
+pub mod Options
 pub mod Ranks
+pub mod Sorts
 pub mod Turns
 pub mod Unique

@@ -1,3 +1,4 @@
+pub mod Classes
 pub mod Draws
 pub mod Lists
 pub mod Orders

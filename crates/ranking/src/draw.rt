@@ -28,6 +28,7 @@ pub(crate) fn draw_order(keys: &mut [Key], draw: u64)
     ensures { Drawn draw keys.old keys.new }
 {
     let mut d = draw;
+    // By place, since each turn takes from all keys that are left from its place on.
     for t in 0..keys.len() {
         d = take_drawn(&mut keys[t..], d);
     }

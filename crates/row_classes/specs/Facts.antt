@@ -1,5 +1,6 @@
 -- What the choice of rows depends on, and which rows are allowed.
-use Rattle.std.specs.Prelude.{ℕ, Bool, false, not, ◌&&◌, ◌||◌, List, [], ◌∷◌, Option}
+use Rattle.std.specs.Prelude.{ℕ, Bool, not, ◌&&◌, List, Option}
+use Rattle.std.specs.List.{list_any}
 use Rattle.plmn.specs.Codes.{valid_code, same_code}
 use Rattle.plmn.specs.Technologies.{has_number}
 use Rattle.plmn.specs.declared.code.Code.{Code}
@@ -22,5 +23,4 @@ allowed supported forbidden r = has_number supported r.technology && (valid_code
 
 -- some allowed row has this code
 abbrev pub some_allowed : ℕ → List Code → Code → List Row → Bool
-some_allowed supported forbidden c [] = false
-some_allowed supported forbidden c (r ∷ rs) = (same_code r.code c && allowed supported forbidden r) || some_allowed supported forbidden c rs
+some_allowed supported forbidden c rs = list_any (λ r. same_code r.code c && allowed supported forbidden r) rs

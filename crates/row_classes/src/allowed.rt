@@ -1,5 +1,4 @@
-ghost use Rattle.std.specs.Prelude.{◌≡◌, ◌&&◌};
-ghost use Rattle.plmn.specs.Codes.{same_code};
+ghost use Rattle.std.specs.Prelude.{◌≡◌};
 ghost use Rattle.row_classes.specs.Facts.{allowed as allowedRow, some_allowed};
 
 use plmn::{Code, Row, TechnologySet};
@@ -12,12 +11,6 @@ pub fn is_allowed(row: Row, supported: TechnologySet, forbidden: &[Code]) -> boo
     supported.has_number(row.technology) && row.code.is_valid() && !holds_in(forbidden, row.code)
 }
 
-fn is_allowed_with(row: Row, code: Code, supported: TechnologySet, forbidden: &[Code]) -> bool
-    ensures { result ≡ (same_code row.code code && allowedRow supported.bits forbidden.now row) }
-{
-    row.code.equals(code) && is_allowed(row, supported, forbidden)
-}
-
 /// Whether some allowed row has this code.
 pub(crate) fn some_allowed(
     rows: &[Row],
@@ -27,10 +20,5 @@ pub(crate) fn some_allowed(
 ) -> bool
     ensures { result ≡ some_allowed supported.bits forbidden.now code rows.now }
 {
-    for row in rows {
-        if is_allowed_with(*row, code, supported, forbidden) {
-            return true;
-        }
-    }
-    false
+    rows.iter().any(|row| row.code == code && is_allowed(*row, supported, forbidden))
 }

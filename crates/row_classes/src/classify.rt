@@ -1,14 +1,14 @@
 ghost use Rattle.std.specs.Prelude.{◌≡◌};
 ghost use Rattle.entry_list.specs.Lists.{list_of};
 ghost use Rattle.plmn.specs.Technologies.{with_number};
-ghost use Rattle.row_classes.specs.Classes.{high_from, high_quality as isHighQuality, bit_at, list_position, code_position, is_code as isThatCode, served_home as homeServedIn, home_served, listed_class, class_of};
+ghost use Rattle.row_classes.specs.Classes.{high_from, high_quality as isHighQuality, bit_at, list_position, code_position, is_code as isThatCode, home_served, listed_class, class_of};
 ghost use Rattle.row_classes.specs.Preferred.{facts_of};
 
 use super::allowed::some_allowed;
-use super::class::Class;
 use super::facts::Preferences;
 use entry_list::EntryList;
 use plmn::{Code, Row, Technology, TechnologySet};
+use ranking::Class;
 
 /// The least level of high quality, in dBm.
 fn high_from(technology: Technology) -> i16
@@ -24,20 +24,14 @@ fn high_from(technology: Technology) -> i16
 fn is_high_quality(row: Row) -> bool
     ensures { result ≡ isHighQuality row }
 {
-    match Technology::with_number(row.technology) {
-        Some(technology) => row.level >= high_from(technology),
-        None => false,
-    }
+    Technology::try_from(row.technology).is_ok_and(|t| row.level >= high_from(t))
 }
 
 /// The set of a technology number alone; a number that stands for no technology gives the empty set.
 fn alone(number: u8) -> TechnologySet
     ensures { result.bits ≡ bit_at (with_number number) }
 {
-    match Technology::with_number(number) {
-        Some(technology) => technology.alone(),
-        None => TechnologySet { bits: 0 },
-    }
+    Technology::try_from(number).map_or(TechnologySet { bits: 0 }, TechnologySet::from)
 }
 
 /// The position of a row in a list: the first entry that counts with its code and technology.
@@ -51,50 +45,22 @@ fn list_position(list: &EntryList, row: Row, supported: TechnologySet) -> Option
 fn code_position(codes: &[Code], code: Code) -> Option<usize>
     ensures { result ≡ code_position code codes.now }
 {
-    for (i, c) in codes.iter().enumerate() {
-        if c.equals(code) {
-            return Some(i);
-        }
-    }
-    None
+    codes.iter().position(|c| *c == code)
 }
 
 fn is_code(known: Option<Code>, code: Code) -> bool
     ensures { result ≡ isThatCode known code }
 {
-    match known {
-        Some(c) => c.equals(code),
-        None => false,
-    }
-}
-
-fn first_served(
-    rows: &[Row],
-    home: &[Code],
-    supported: TechnologySet,
-    forbidden: &[Code],
-) -> Option<Code>
-    ensures { result ≡ homeServedIn supported.bits forbidden.now rows.now home.now }
-{
-    for code in home {
-        if some_allowed(rows, *code, supported, forbidden) {
-            return Some(*code);
-        }
-    }
-    None
+    known == Some(code)
 }
 
 /// The first home code that has an allowed row.
 pub fn served_home(rows: &[Row], preferences: &Preferences) -> Option<Code>
     ensures { result ≡ home_served (facts_of preferences.now) rows.now }
 {
+    let home = preferences.card.home.codes();
     let forbidden = preferences.card.forbidden.codes();
-    first_served(
-        rows,
-        preferences.card.home.codes(),
-        preferences.supported,
-        forbidden,
-    )
+    home.iter().copied().find(|code| some_allowed(rows, *code, preferences.supported, forbidden))
 }
 
 /// The class of a row of neither the registered code nor an equivalent one nor the served home code.

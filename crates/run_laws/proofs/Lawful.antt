@@ -36,7 +36,7 @@ module _ (s : Standing) (fs : Files) (a : Air) (draw : ℕ) where
   abbrev home : Option Code
   home = home_served facts (found (rows_found a))
 
-  abbrev ks : List Key
+  abbrev ks : List (Option Key)
   ks = keys_of facts (rows_found a)
 
   abbrev order : List Key
@@ -62,7 +62,7 @@ module _ (s : Standing) (fs : Files) (a : Air) (draw : ℕ) where
     turns_allowed p i =
         let k = key_at p order i in
         let o = only_allowed ks draw order in_order k.0 k.1 in
-        let r = allowed_row facts home k.0 0 (found (rows_found a)) o.0 o.1 in
+        let r = allowed_row facts home k.0 0 (found (rows_found a)) o in
         let j : r.0 ≡ p = omega (arith, r.1, k.2) in
         let there : slice_get (rows_found a) p ≡ Some r.2.0 = subst (λ (l : List Row). slice_get l p ≡ Some r.2.0) all_found (subst (λ (n : ℕ). slice_get (found (rows_found a)) n ≡ Some r.2.0) j r.2.1) in
         (r.2.0, there, allowed_says s.supported (forbidden_of fs) r.2.0 r.2.2)
@@ -71,8 +71,8 @@ module _ (s : Standing) (fs : Files) (a : Air) (draw : ℕ) where
     allowed_turns p r =
         let there : slice_get (found (rows_found a)) p ≡ Some r.0 = subst (λ (l : List Row). slice_get l p ≡ Some r.0) (sym all_found) r.1 in
         let k = allowed_key facts home 0 p (found (rows_found a)) r.0 there (says_allowed s.supported (forbidden_of fs) r.0 r.2) in
-        let e : k.0.place ≡ p = omega (arith, k.3) in
-        subst (λ (n : ℕ). In n (places_of order)) e (place_in k.0 order (each_allowed ks draw order in_order k.0 k.1 k.2))
+        let e : k.0.place ≡ p = omega (arith, k.2) in
+        subst (λ (n : ℕ). In n (places_of order)) e (place_in k.0 order (each_allowed ks draw order in_order k.0 k.1))
 
     tried : Tried s fs a draw trail (run_standing s fs a draw).state (run_air s fs a draw)
     tried = record {

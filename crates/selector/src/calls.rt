@@ -27,14 +27,8 @@ fn usable_row<R: Registrar>(
     ensures air { R.Registrar.air radio.new ≡ R.Registrar.air radio.old }
 {
     match radio.entry(place) {
-        Ok(row) => {
-            if is_usable(row, supported) {
-                Ok(row)
-            } else {
-                Err(Refusal::UnusableRow)
-            }
-        }
-        Err(_) => Err(Refusal::UnusableRow),
+        Ok(row) if is_usable(row, supported) => Ok(row),
+        _ => Err(Refusal::UnusableRow),
     }
 }
 

@@ -50,7 +50,7 @@ impl On {
         self.turn(Event::Tries(state_by(end, otherwise)));
         self.roaming = roaming;
         self.regional = regional;
-        if heard.len() > 0 {
+        if !heard.is_empty() {
             keep_forbidden(card, heard, &forbidden);
             keep_location(card, end);
             self.equivalents = equivalents_by(radio, place, end);

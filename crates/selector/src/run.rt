@@ -15,7 +15,7 @@ use ranking::{Key, RowOrder};
 use refusal::Refusal;
 use states::{RunAnswer, Serving, State, may_run};
 use subscriber::{Identity, Subscriber};
-use tries::{row_at, try_rows};
+use tries::{AreaLists, row_at, try_rows};
 
 /// The state of a run that nothing ended: limited on the first row of the order, or no service.
 fn unended<R: Registrar>(radio: &mut R, order: &[Key]) -> State
@@ -25,7 +25,7 @@ fn unended<R: Registrar>(radio: &mut R, order: &[Key]) -> State
     match order {
         [first, ..] => {
             let row = row_at(radio, first.place as usize);
-            State::Limited(Serving::of(row))
+            State::Limited(Serving::from(row))
         }
         [] => State::NoService,
     }
@@ -35,8 +35,7 @@ fn unended<R: Registrar>(radio: &mut R, order: &[Key]) -> State
 fn last_place(places: &[u8]) -> usize
     ensures { result ≡ last_of places.now }
 {
-    let n = places.len();
-    if n == 0 { 0 } else { places[n - 1] as usize }
+    places.last().copied().unwrap_or(0) as usize
 }
 
 impl On {
@@ -58,11 +57,16 @@ impl On {
         ensures air { R.Registrar.air radio.new ≡ tried_air (R.Registrar.air radio.old) (tried_places (standing self.old) (order_in order.now) (R.Registrar.air radio.old)) }
     {
         let otherwise = unended(radio, order.keys());
-        match try_rows(radio, order, &self.roaming, &self.regional, trail) {
+        let areas = AreaLists {
+            roaming: &self.roaming,
+            regional: &self.regional,
+        };
+        // No `map_or` here: its closure would hold the selector, the radio and the card by `&mut`.
+        match try_rows(radio, order, &areas, trail) {
             Ok(tried) => {
-                let n = tried.count;
-                let place = last_place(&trail[0..n]);
-                let heard = &tried.heard[0..n];
+                let heard = tried.heard.as_slice();
+                let n = heard.len();
+                let place = last_place(&trail[..n]);
                 self.conclude(radio, card, subscriber, heard, tried.end, place, otherwise);
                 n
             }

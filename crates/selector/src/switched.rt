@@ -4,7 +4,7 @@ ghost use Rattle.states.specs.Standings.{fresh, switched_on, switched_off, turne
 ghost use Rattle.states.specs.States.{state_after};
 ghost use Rattle.subscriber.specs.Codes.{codes_in};
 
-use plmn::{Area, Code, Settings};
+use plmn::{Area, Settings};
 use states::{Event, Mode, State};
 use subscriber::CodeList;
 
@@ -26,11 +26,6 @@ pub struct On {
     pub(crate) roaming: [Area; 10],
     pub(crate) regional: [Area; 10],
 }
-
-const NO_AREA: Area = Area {
-    code: Code::EMPTY,
-    number: 0,
-};
 
 impl Off {
     /// A new selector: off, automatic, without equivalents.
@@ -58,8 +53,8 @@ impl Off {
             mode,
             state: State::JustOn,
             equivalents,
-            roaming: [NO_AREA; 10],
-            regional: [NO_AREA; 10],
+            roaming: [Area::EMPTY; 10],
+            regional: [Area::EMPTY; 10],
         }
     }
 }

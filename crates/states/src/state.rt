@@ -46,10 +46,19 @@ pub enum Mode {
 }
 
 impl Serving {
-    /// The network of a row.
-    pub fn of(row: Row) -> Serving
-        ensures { result ≡ serving_of row }
-    {
+    /// What a state is about that is about no network: the empty code, 0 and 0.
+    pub const NONE: Serving = Serving {
+        code: Code::EMPTY,
+        technology: 0,
+        area: 0,
+    };
+}
+
+/// The network of a row.
+impl From<Row> for Serving {
+    ghost from_gives = { λ row serving. serving ≡ serving_of row };
+
+    fn from(row: Row) -> Serving {
         Serving {
             code: row.code,
             technology: row.technology,
@@ -58,11 +67,12 @@ impl Serving {
     }
 }
 
-impl State {
-    pub fn number(self) -> u8
-        ensures { result ≡ state_number self }
-    {
-        match self {
+/// The number by which a state is known outside.
+impl From<State> for u8 {
+    ghost from_gives = { λ state number. number ≡ state_number state };
+
+    fn from(state: State) -> u8 {
+        match state {
             State::JustOn => 0,
             State::Registered(_) => 1,
             State::Limited(_) => 2,
@@ -71,23 +81,16 @@ impl State {
             State::Lost(_) => 5,
         }
     }
+}
 
+impl State {
     /// The network that the state is about; the empty code, 0 and 0 where it is about none.
     pub fn serving(self) -> Serving
         ensures { result ≡ servingIn self }
     {
-        let none = Serving {
-            code: Code::EMPTY,
-            technology: 0,
-            area: 0,
-        };
         match self {
-            State::JustOn => none,
-            State::Registered(s) => s,
-            State::Limited(s) => s,
-            State::NoService => none,
-            State::Locked => none,
-            State::Lost(s) => s,
+            State::Registered(s) | State::Limited(s) | State::Lost(s) => s,
+            State::JustOn | State::NoService | State::Locked => Serving::NONE,
         }
     }
 }

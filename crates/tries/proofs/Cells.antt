@@ -1,5 +1,6 @@
 -- The row and the answer at a place of the sky; a try changes neither.
 use Rattle.std.proofs.Common.{◌≡◌, ℕ, zero, suc, List, [], ◌∷◌, Ok, Err, Result, sym, refl, ap, arith}
+use Rattle.std.specs.Result.{result_unwrap_or}
 use Rattle.refusal.specs.declared.Refusal.{Refusal}
 use Rattle.refusal.specs.declared.Refusal.TheVariants.{NoRow}
 use Rattle.plmn.specs.declared.row.Row.{Row}
@@ -19,20 +20,15 @@ row_is [] p r h = absurd (ok_err r NoRow h)
 row_is (c ∷ cs) zero r h = same_ok r c.offer.row h
 row_is (c ∷ cs) (suc p) r h = row_is cs p r h
 
-pub no_row : (cells : List Cell) (p : ℕ) (e : Refusal) → Err e ≡ entry_at cells p → nothing.row ≡ (at (heard_sky cells) p).row
-no_row [] p e h = refl
-no_row (c ∷ cs) zero e h = absurd (ok_err c.offer.row e (sym h))
-no_row (c ∷ cs) (suc p) e h = no_row cs p e h
+pub row_there : (cells : List Cell) (p : ℕ) → result_unwrap_or (entry_at cells p) nothing.row ≡ (at (heard_sky cells) p).row
+row_there [] p = refl
+row_there (c ∷ cs) zero = refl
+row_there (c ∷ cs) (suc p) = row_there cs p
 
-pub answer_is : (cells : List Cell) (p : ℕ) (a : Answer) → Ok a ≡ answer_at cells p → a ≡ (at (heard_sky cells) p).answer
-answer_is [] p a h = absurd (ok_err a NoRow h)
-answer_is (c ∷ cs) zero a h = same_ok a (answer_of c.offer.reply) h
-answer_is (c ∷ cs) (suc p) a h = answer_is cs p a h
-
-pub no_answer : (cells : List Cell) (p : ℕ) (e : Refusal) → Err e ≡ answer_at cells p → Silence ≡ (at (heard_sky cells) p).answer
-no_answer [] p e h = refl
-no_answer (c ∷ cs) zero e h = absurd (ok_err (answer_of c.offer.reply) e (sym h))
-no_answer (c ∷ cs) (suc p) e h = no_answer cs p e h
+pub answer_there : (cells : List Cell) (p : ℕ) → result_unwrap_or (answer_at cells p) Silence ≡ (at (heard_sky cells) p).answer
+answer_there [] p = refl
+answer_there (c ∷ cs) zero = refl
+answer_there (c ∷ cs) (suc p) = answer_there cs p
 
 heard_changed : (cells : List Cell) (p : ℕ) → heard_sky (changed marked cells p) ≡ heard_sky cells
 heard_changed [] p = refl

@@ -1,7 +1,7 @@
 -- What the tries of a run keep from turn to turn, and its turns.
 use Rattle.std.proofs.Common.{◌≡◌, ℕ, ◌+◌, ◌<◌, ◌≤◌, Bool, true, false, cond, List, [], ◌∷◌, ◌++◌, map, length, get_or, take, drop, set, Some, None, fold, sym, refl, ap, ◌∙◌, subst, arith}
 use Rattle.std.proofs.lemmas.List.Sums.{fold_push}
-use Rattle.std.proofs.lemmas.List.{at_drop_more, at_drop_all, append_assoc, append-nil, take_more_set, drop-set-lt, drop-drop, length-set, map_push}
+use Rattle.std.proofs.lemmas.List.{at_drop_more, at_drop_all, append_assoc, append-nil, take_more_set, drop-set-lt, drop-drop, length_push, map_push}
 use Rattle.plmn.specs.declared.row.Row.{Row}
 use Rattle.radio.specs.Airs.{Air, attempted}
 use Rattle.causes.specs.Closing.{ends}
@@ -14,10 +14,10 @@ use Rattle.tries.proofs.Cells.{heard_attempted}
 
 pub record Mid (bar : Row → Bool) (start : Air) (order : List Key) (before : List ℕ) (i n : ℕ) (done : List Heard) (trail : List ℕ) (a : Air) : Type 0 where
   pub few : n ≤ i
-  pub size : length done ≡ 20
-  pub far : take n trail ++ trail_of bar (heard_sky start.here) (take n done) (drop i order) ≡ trail_of bar (heard_sky start.here) [] order
-  pub ending : end_of bar (heard_sky start.here) (take n done) (drop i order) ≡ end_of bar (heard_sky start.here) [] order
-  pub told : take n done ≡ map (at (heard_sky start.here)) (take n trail)
+  pub size : length done ≡ n
+  pub far : take n trail ++ trail_of bar (heard_sky start.here) done (drop i order) ≡ trail_of bar (heard_sky start.here) [] order
+  pub ending : end_of bar (heard_sky start.here) done (drop i order) ≡ end_of bar (heard_sky start.here) [] order
+  pub told : done ≡ map (at (heard_sky start.here)) (take n trail)
   pub air : a ≡ fold attempted start (take n trail)
   pub rest : drop n trail ≡ drop n before
   pub here : heard_sky a.here ≡ heard_sky start.here
@@ -43,7 +43,7 @@ module _ (bar : Row → Bool) (start : Air) (order : List Key) (before : List �
   p = (get_or order i no_key).place
 
   abbrev D : List Heard
-  D = take n done
+  D = done
 
   -- what is left at this turn, by its first row
   turn_trail : i < length order → (b : Bool) → shut bar D (at sky p).row ≡ b
@@ -59,12 +59,12 @@ module _ (bar : Row → Bool) (start : Air) (order : List Key) (before : List �
       ∙ ap (λ (t : Bool). cond t (end_of bar sky D (drop (i + 1) order)) (cond (ends (at sky p).answer) (Some (at sky p)) (end_of bar sky (D ++ (at sky p ∷ [])) (drop (i + 1) order)))) e
 
   -- the row of the turn is shut
-  pub pass : i < length order → (m : ℕ) (b : Air) → m ≡ n → None ≡ cond (shut bar (take m done) (at (heard_sky a.here) p).row) None (Some (at (heard_sky a.here) p))
-      → b ≡ cond (shut bar (take m done) (at (heard_sky a.here) p).row) a (attempted a p)
+  pub pass : i < length order → (d : List Heard) (b : Air) → d ≡ done → None ≡ cond (shut bar d (at (heard_sky a.here) p).row) None (Some (at (heard_sky a.here) p))
+      → b ≡ cond (shut bar d (at (heard_sky a.here) p).row) a (attempted a p)
       → Mid bar start order before (i + 1) n done trail b
-  pass h m b z v e =
-      let c : shut bar (take m done) (at (heard_sky a.here) p).row ≡ true = none_closed (shut bar (take m done) (at (heard_sky a.here) p).row) (at (heard_sky a.here) p) v in
-      let s : shut bar D (at sky p).row ≡ true = ap (λ (k : ℕ). shut bar (take k done) (at sky p).row) (sym z) ∙ ap (λ (k : List Heard). shut bar (take m done) (at k p).row) (sym mid.here) ∙ c in
+  pass h d b z v e =
+      let c : shut bar d (at (heard_sky a.here) p).row ≡ true = none_closed (shut bar d (at (heard_sky a.here) p).row) (at (heard_sky a.here) p) v in
+      let s : shut bar D (at sky p).row ≡ true = ap (λ (k : List Heard). shut bar k (at sky p).row) (sym z) ∙ ap (λ (k : List Heard). shut bar d (at k p).row) (sym mid.here) ∙ c in
       let same : b ≡ a = e ∙ ap (λ (t : Bool). cond t a (attempted a p)) c in
       record {
         few = let f = mid.few in omega arith;
@@ -78,14 +78,15 @@ module _ (bar : Row → Bool) (start : Air) (order : List Key) (before : List �
       }
 
   -- the row of the turn is open, and is tried: x is what was heard
-  module _ (h : i < length order) (few : length order ≤ 20) (long : 20 ≤ length trail) (m : ℕ) (z : m ≡ n) (x : Heard) (b : Air)
-      (v : Some x ≡ cond (shut bar (take m done) (at (heard_sky a.here) p).row) None (Some (at (heard_sky a.here) p)))
-      (e : b ≡ cond (shut bar (take m done) (at (heard_sky a.here) p).row) a (attempted a p)) where
-    opened : (shut bar (take m done) (at (heard_sky a.here) p).row ≡ false) × (x ≡ at (heard_sky a.here) p)
-    opened = some_open (shut bar (take m done) (at (heard_sky a.here) p).row) x (at (heard_sky a.here) p) v
+  module _ (h : i < length order) (few : length order ≤ 20) (long : 20 ≤ length trail) (d : List Heard) (z : d ≡ done) (x : Heard) (b : Air)
+      (v : Some x ≡ cond (shut bar d (at (heard_sky a.here) p).row) None (Some (at (heard_sky a.here) p)))
+      (e : b ≡ cond (shut bar d (at (heard_sky a.here) p).row) a (attempted a p))
+      (done' : List Heard) (w : done' ≡ done ++ x ∷ []) where
+    opened : (shut bar d (at (heard_sky a.here) p).row ≡ false) × (x ≡ at (heard_sky a.here) p)
+    opened = some_open (shut bar d (at (heard_sky a.here) p).row) x (at (heard_sky a.here) p) v
 
     open' : shut bar D (at sky p).row ≡ false
-    open' = ap (λ (k : ℕ). shut bar (take k done) (at sky p).row) (sym z) ∙ ap (λ (k : List Heard). shut bar (take m done) (at k p).row) (sym mid.here) ∙ opened.0
+    open' = ap (λ (k : List Heard). shut bar k (at sky p).row) (sym z) ∙ ap (λ (k : List Heard). shut bar d (at k p).row) (sym mid.here) ∙ opened.0
 
     heard : x ≡ at sky p
     heard = opened.1 ∙ ap (λ (k : List Heard). at k p) mid.here
@@ -96,16 +97,13 @@ module _ (bar : Row → Bool) (start : Air) (order : List Key) (before : List �
     short : n < length trail
     short = let f = mid.few in omega arith
 
-    room : n < length done
-    room = let f = mid.few in let s = mid.size in omega arith
-
     grown : take (n + 1) (set trail n p) ≡ take n trail ++ (p ∷ [])
     grown = take_more_set trail n p short
 
-    more : take (n + 1) (set done n x) ≡ D ++ (at sky p ∷ [])
-    more = take_more_set done n x room ∙ ap (λ (y : Heard). D ++ (y ∷ [])) heard
+    more : done' ≡ D ++ (at sky p ∷ [])
+    more = w ∙ ap (λ (y : Heard). D ++ (y ∷ [])) heard
 
-    told' : take (n + 1) (set done n x) ≡ map (at sky) (take (n + 1) (set trail n p))
+    told' : done' ≡ map (at sky) (take (n + 1) (set trail n p))
     told' = more ∙ ap (λ (d : List Heard). d ++ (at sky p ∷ [])) mid.told ∙ sym (map_push (at sky) (take n trail) p) ∙ ap (map (at sky)) (sym grown)
 
     air' : b ≡ fold attempted start (take (n + 1) (set trail n p))
@@ -114,15 +112,15 @@ module _ (bar : Row → Bool) (start : Air) (order : List Key) (before : List �
     rest' : drop (n + 1) (set trail n p) ≡ drop (n + 1) before
     rest' = rest_set trail before n p mid.rest
 
-    pub next : ends x.answer ≡ false → Mid bar start order before (i + 1) (n + 1) (set done n x) (set trail n p) b
+    pub next : ends x.answer ≡ false → Mid bar start order before (i + 1) (n + 1) done' (set trail n p) b
     next f =
         let g : ends (at sky p).answer ≡ false = ap (λ (y : Heard). ends y.answer) (sym heard) ∙ f in
         record {
           few = let q = mid.few in omega arith;
-          size = length-set done n x ∙ mid.size;
+          size = ap length w ∙ (length_push done x ∙ ap (λ (k : ℕ). k + 1) mid.size);
           far =
-              ap (λ (y : List ℕ). y ++ trail_of bar sky (take (n + 1) (set done n x)) (drop (i + 1) order)) grown
-              ∙ append_assoc (take n trail) (p ∷ []) (trail_of bar sky (take (n + 1) (set done n x)) (drop (i + 1) order))
+              ap (λ (y : List ℕ). y ++ trail_of bar sky done' (drop (i + 1) order)) grown
+              ∙ append_assoc (take n trail) (p ∷ []) (trail_of bar sky done' (drop (i + 1) order))
               ∙ ap (λ (y : List Heard). take n trail ++ (p ∷ trail_of bar sky y (drop (i + 1) order))) more
               ∙ ap (λ (t : Bool). take n trail ++ (p ∷ cond t [] (trail_of bar sky (D ++ (at sky p ∷ [])) (drop (i + 1) order)))) (sym g)
               ∙ ap (λ (y : List ℕ). take n trail ++ y) (sym (turn_trail h false open')) ∙ mid.far;
@@ -136,7 +134,7 @@ module _ (bar : Row → Bool) (start : Air) (order : List Key) (before : List �
           here = ap (λ (y : Air). heard_sky y.here) tried' ∙ heard_attempted a p ∙ mid.here;
         }
 
-    pub last : ends x.answer ≡ true → Walked bar start order before (n + 1) (take (n + 1) (set done n x)) (Some x) (set trail n p) b
+    pub last : ends x.answer ≡ true → Walked bar start order before (n + 1) done' (Some x) (set trail n p) b
     last f =
         let g : ends (at sky p).answer ≡ true = ap (λ (y : Heard). ends y.answer) (sym heard) ∙ f in
         record {
@@ -155,7 +153,7 @@ module _ (bar : Row → Bool) (start : Air) (order : List Key) (before : List �
         }
 
   -- no turn is left
-  pub over : length order ≤ i → i ≤ 20 → Walked bar start order before n (take n done) None trail a
+  pub over : length order ≤ i → i ≤ 20 → Walked bar start order before n done None trail a
   over h most =
       record {
         few = let q = mid.few in omega arith;

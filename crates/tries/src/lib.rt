@@ -6,4 +6,4 @@ mod laws;
 mod walk;
 
 pub use laws::trail_is_one;
-pub use walk::{Tried, answer_at, row_at, try_rows};
+pub use walk::{AreaLists, Tried, answer_at, row_at, try_rows};

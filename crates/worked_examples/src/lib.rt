@@ -13,7 +13,6 @@ pub fn examples_hold()
 mod tests {
     use plmn::{Code, Digits};
     use short_list::ShortList;
-    use std::test::Fail;
     use subscriber::imsi_code;
 
     const A: Code = Code {
@@ -49,76 +48,54 @@ mod tests {
     const IMSI: [u8; 9] = [0x08, 0x09, 0x10, 0x10, 0x10, 0x32, 0x54, 0x76, 0x98];
 
     fn code(mcc: [u8; 3], mnc: [u8; 3]) -> Code {
-        Digits {
+        Code::from(Digits {
             mcc1: mcc[0],
             mcc2: mcc[1],
             mcc3: mcc[2],
             mnc1: mnc[0],
             mnc2: mnc[1],
             mnc3: mnc[2],
-        }
-        .code()
+        })
     }
 
     #[test]
     fn codes_have_their_bytes(rt: HostRuntime) {
-        assert!(rt; code([0, 0, 1], [0, 1, 15]).equals(A));
-        assert!(rt; code([0, 0, 1], [0, 1, 1]).equals(D));
-        assert!(rt; code([2, 6, 2], [0, 2, 15]).equals(B));
+        assert!(rt; code([0, 0, 1], [0, 1, 15]) == A);
+        assert!(rt; code([0, 0, 1], [0, 1, 1]) == D);
+        assert!(rt; code([2, 6, 2], [0, 2, 15]) == B);
         assert!(rt; A.is_valid() && B.is_valid() && D.is_valid());
         assert!(rt; !Code::EMPTY.is_valid());
     }
 
     #[test]
-    fn imsi_gives_its_code(rt: HostRuntime) -> Result<(), Fail> {
-        match imsi_code(&IMSI, &[0, 0, 0, 2]) {
-            Ok(c) => assert!(rt; c.equals(A)),
-            Err(_) => assert!(rt; false),
-        }
-        match imsi_code(&IMSI, &[0, 0, 0, 3]) {
-            Ok(c) => assert!(rt; c.equals(Code::new(0x00, 0x01, 0x10))),
-            Err(_) => assert!(rt; false),
-        }
-        match imsi_code(&IMSI, &[0, 0, 0, 4]) {
-            Ok(_) => {
-                assert!(rt; false);
-                Ok(())
-            },
-            Err(e) => {
-                assert_eq!(rt; e.number(), 3);
-                Ok(())
-            },
-        }
+    fn imsi_gives_its_code(rt: HostRuntime) {
+        let other = Code::new(0x00, 0x01, 0x10);
+        assert!(rt; imsi_code(&IMSI, &[0, 0, 0, 2]).is_ok_and(|code| code == A));
+        assert!(rt; imsi_code(&IMSI, &[0, 0, 0, 3]).is_ok_and(|code| code == other));
+        let refused = imsi_code(&IMSI, &[0, 0, 0, 4]).err();
+        assert_eq!(rt; refused.map(u8::from), Some(3));
     }
 
     #[test]
     fn full_list_loses_its_first(rt: HostRuntime) {
         let mut places = [A, B, C, D];
         let _ = ShortList::new(&mut places).store(E);
-        assert!(rt; places[0].equals(B) && places[1].equals(C));
-        assert!(rt; places[2].equals(D) && places[3].equals(E));
+        assert!(rt; places[0] == B && places[1] == C);
+        assert!(rt; places[2] == D && places[3] == E);
     }
 
     #[test]
     fn first_empty_place_is_taken(rt: HostRuntime) {
         let mut places = [A, Code::EMPTY, C, D];
         let _ = ShortList::new(&mut places).store(E);
-        assert!(rt; places[0].equals(A) && places[1].equals(E));
-        assert!(rt; places[2].equals(C) && places[3].equals(D));
+        assert!(rt; places[0] == A && places[1] == E);
+        assert!(rt; places[2] == C && places[3] == D);
     }
 
     #[test]
-    fn no_place_refuses(rt: HostRuntime) -> Result<(), Fail> {
+    fn no_place_refuses(rt: HostRuntime) {
         let mut places: [Code; 0] = [];
-        match ShortList::new(&mut places).store(E) {
-            Ok(()) => {
-                assert!(rt; false);
-                Ok(())
-            },
-            Err(e) => {
-                assert_eq!(rt; e.number(), 9);
-                Ok(())
-            },
-        }
+        let refused = ShortList::new(&mut places).store(E).err();
+        assert_eq!(rt; refused.map(u8::from), Some(9));
     }
 }

@@ -1,8 +1,9 @@
-use Rattle.tries.proofs.Cells.{answer_is, no_answer}
+use Rattle.std.proofs.Common.{ap, ◌∙◌}
+use Rattle.std.specs.Result.{result_unwrap_or}
+use Rattle.radio.specs.declared.answer.Answer.TheVariants.{Silence}
+use Rattle.tries.proofs.Cells.{answer_there}
 use Rattle.tries.proofs.walk.answer_at.Goals as goal
 
-pub returns-in-Ok : goal.returns-in-Ok
-returns-in-Ok g c = record { value = answer_is (g.R.Registrar.air c.args.radio.now).here c.args.place _ c.in-Ok.ensures.value; air = c.in-Ok.ensures.air }
-
-pub returns-in-Err : goal.returns-in-Err
-returns-in-Err g c = record { value = no_answer (g.R.Registrar.air c.args.radio.now).here c.args.place _ c.in-Err.ensures.value; air = c.in-Err.ensures.air }
+pub returns-clause-value : goal.returns-clause-value
+returns-clause-value g c =
+    c.unwrap_or.ensures ∙ (ap (λ r. result_unwrap_or r Silence) c.attempt.ensures.value ∙ answer_there (g.R.Registrar.air c.args.radio.now).here c.args.place)

@@ -1,8 +1,9 @@
-use Rattle.tries.proofs.Cells.{row_is, no_row}
+use Rattle.std.proofs.Common.{ap, ◌∙◌}
+use Rattle.std.specs.Result.{result_unwrap_or}
+use Rattle.tries.specs.Turns.{nothing}
+use Rattle.tries.proofs.Cells.{row_there}
 use Rattle.tries.proofs.walk.row_at.Goals as goal
 
-pub returns-in-Ok : goal.returns-in-Ok
-returns-in-Ok g c = record { value = row_is (g.R.Registrar.air c.args.radio.now).here c.args.place _ c.in-Ok.ensures.value; air = c.in-Ok.ensures.air }
-
-pub returns-in-Err : goal.returns-in-Err
-returns-in-Err g c = record { value = no_row (g.R.Registrar.air c.args.radio.now).here c.args.place _ c.in-Err.ensures.value; air = c.in-Err.ensures.air }
+pub returns-clause-value : goal.returns-clause-value
+returns-clause-value g c =
+    c.unwrap_or.ensures ∙ (ap (λ r. result_unwrap_or r nothing.row) c.entry.ensures.value ∙ row_there (g.R.Registrar.air c.args.radio.now).here c.args.place)
