@@ -25,10 +25,9 @@ fn row_of<A: Finder, B: Finder>(one: &mut A, other: &mut B, place: usize) -> Res
     ensures first { A.Finder.sky one.new ≡ A.Finder.sky one.old }
     ensures second { B.Finder.sky other.new ≡ B.Finder.sky other.old }
 {
-    match side_of(place, one.count()) {
+    match side_of(place, one.count())? {
         Side::First(below) => one.row(below),
         Side::Second(below) => other.row(below),
-        Side::Nowhere => Err(Refusal::NoRow),
     }
 }
 

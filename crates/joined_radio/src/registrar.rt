@@ -40,10 +40,10 @@ fn entry_of<A: Registrar, B: Registrar>(
     ensures first { (A.Registrar.air one.new ≡ A.Registrar.air one.old) × (A.Finder.sky one.new ≡ A.Finder.sky one.old) }
     ensures second { (B.Registrar.air other.new ≡ B.Registrar.air other.old) × (B.Finder.sky other.new ≡ B.Finder.sky other.old) }
 {
-    match side_of(place, one.rows()) {
+    // One match a call: a helper over two closures, one for each radio, would be no shorter, and its clauses longer.
+    match side_of(place, one.rows())? {
         Side::First(below) => one.entry(below),
         Side::Second(below) => other.entry(below),
-        Side::Nowhere => Err(Refusal::NoRow),
     }
 }
 
@@ -59,10 +59,9 @@ fn attempt_of<A: Registrar, B: Registrar>(
     ensures first { (A.Registrar.air one.new ≡ first_tried (A.Registrar.air one.old) place) × (A.Finder.sky one.new ≡ A.Finder.sky one.old) }
     ensures second { (B.Registrar.air other.new ≡ second_tried (A.Registrar.air one.old) (B.Registrar.air other.old) place) × (B.Finder.sky other.new ≡ B.Finder.sky other.old) }
 {
-    match side_of(place, one.rows()) {
+    match side_of(place, one.rows())? {
         Side::First(below) => one.attempt(below),
         Side::Second(below) => other.attempt(below),
-        Side::Nowhere => Err(Refusal::NoRow),
     }
 }
 
@@ -78,9 +77,9 @@ fn code_of<A: Registrar, B: Registrar>(
     ensures second { (B.Registrar.air other.new ≡ B.Registrar.air other.old) × (B.Finder.sky other.new ≡ B.Finder.sky other.old) }
 {
     match side_of(place, one.rows()) {
-        Side::First(below) => one.accepted_code(below, index),
-        Side::Second(below) => other.accepted_code(below, index),
-        Side::Nowhere => Code::EMPTY,
+        Ok(Side::First(below)) => one.accepted_code(below, index),
+        Ok(Side::Second(below)) => other.accepted_code(below, index),
+        Err(_) => Code::EMPTY,
     }
 }
 

@@ -16,10 +16,9 @@ fn is_shown<R, Q: Asks<R>>(
     ensures rows { Q.Asks.rows radio.new ≡ Q.Asks.rows radio.old }
     ensures same { Q.Asks.meaning radio.new ≡ Q.Asks.meaning radio.old }
 {
-    match asked.row(radio, place) {
-        Ok(row) => technologies.has_number(row.technology),
-        Err(_) => false,
-    }
+    asked
+        .row(radio, place)
+        .is_ok_and(|row| technologies.has_number(row.technology))
 }
 
 /// How many rows of the sky now have a technology in the set.
@@ -29,6 +28,7 @@ pub fn shown_count<R, Q: Asks<R>>(asked: &Q, radio: &mut R, technologies: Techno
     ensures agree { Q.Asks.agree radio.old }
     ensures same { Q.Asks.meaning radio.new ≡ Q.Asks.meaning radio.old }
 {
+    // A loop: tried as `filter` and `count`, but a closure that holds the radio leaves nothing known of it, so the proof does not close.
     let count = asked.count(radio);
     let mut shown = 0;
     for i in 0..count {
@@ -49,6 +49,7 @@ pub fn place_below<R, Q: Asks<R>>(
     ensures value { Spot (in_set technologies.bits) (Q.Asks.rows radio.old) place result }
     ensures same { Q.Asks.meaning radio.new ≡ Q.Asks.meaning radio.old }
 {
+    // A loop for the same reason as in `shown_count`.
     let count = asked.count(radio);
     let mut seen = 0;
     for i in 0..count {

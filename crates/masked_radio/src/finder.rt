@@ -18,10 +18,8 @@ fn row_through<R: Finder>(
     ensures value { result ≡ row_at (masked_sky technologies.bits (R.Finder.sky radio.old)).here place }
     ensures same { R.Finder.sky radio.new ≡ R.Finder.sky radio.old }
 {
-    match place_below(&AsFinder, radio, technologies, place) {
-        Some(below) => radio.row(below),
-        None => Err(Refusal::NoRow),
-    }
+    let below = place_below(&AsFinder, radio, technologies, place).ok_or(Refusal::NoRow)?;
+    radio.row(below)
 }
 
 impl<R: Finder> Finder for Masked<R> {

@@ -45,10 +45,8 @@ fn entry_through<R: Registrar>(
     ensures air { R.Registrar.air radio.new ≡ R.Registrar.air radio.old }
     ensures sky { R.Finder.sky radio.new ≡ R.Finder.sky radio.old }
 {
-    match cell_below(radio, technologies, place) {
-        Some(below) => radio.entry(below),
-        None => Err(Refusal::NoRow),
-    }
+    let below = cell_below(radio, technologies, place).ok_or(Refusal::NoRow)?;
+    radio.entry(below)
 }
 
 /// Tries the row at a place among those that the set lets through, and no other.
@@ -63,10 +61,8 @@ fn attempt_through<R: Registrar>(
     ensures air { R.Registrar.air radio.new ≡ tried_below technologies.bits (R.Registrar.air radio.old) place }
     ensures sky { R.Finder.sky radio.new ≡ R.Finder.sky radio.old }
 {
-    match cell_below(radio, technologies, place) {
-        Some(below) => radio.attempt(below),
-        None => Err(Refusal::NoRow),
-    }
+    let below = cell_below(radio, technologies, place).ok_or(Refusal::NoRow)?;
+    radio.attempt(below)
 }
 
 /// A code of the acceptance of the tried row at a place among those that the set lets through.

@@ -63,6 +63,7 @@ pub fn guest_table() -> [TableRow; 3] {
 /// Twenty-five rows: fifteen that stay silent, and ten that accept.
 pub fn long_block() -> [TableRow; 25] {
     let mut t = [table_row(40, 0, Answer::Silence, 0); 25];
+    // a loop: beside `iter_mut` the bound of n did not prove
     for i in 0..25 {
         let n = i as u8;
         let answer = if n < 15 {

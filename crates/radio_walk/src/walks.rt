@@ -2,127 +2,166 @@
 use super::tables::{guest_table, home_table, long_block, table_row};
 use joined_radio::Joined;
 use masked_radio::Masked;
-use plmn::TechnologySet;
+use plmn::{Code, TechnologySet};
 use radio::{Answer, Finder, Registrar};
-use std::io;
+use std::{fmt, io};
 use table_radio::TableRadio;
 
-/// Prints the row at a place, or the number of the refusal.
-fn print_row<R: Registrar>(rt: &HostRuntime, radio: &mut R, place: usize) -> io::Result<()> {
-    match radio.entry(place) {
-        Ok(row) => {
-            let a = row.code.first;
-            let b = row.code.second;
-            let c = row.code.third;
-            let technology = row.technology;
-            let area = row.area;
-            let level = row.level;
-            println!(rt; "row {place}: {a:02X}{b:02X}{c:02X} {technology} {area} {level}")
-        }
-        Err(refusal) => {
-            let number = refusal.number();
-            println!(rt; "row {place}: refused {number}")
-        }
+/// A code by its three bytes.
+#[derive(Clone, Copy)]
+struct CodeBytes(Code);
+
+impl fmt::Display for CodeBytes {
+    fn fmt<W: fmt::Write>(&self, f: &mut fmt::Formatter<W>) -> fmt::Result {
+        let Code {
+            first,
+            second,
+            third,
+        } = self.0;
+        write!(f, "{first:02X}{second:02X}{third:02X}")
     }
 }
 
-/// Prints how many rows the sky now has, and each of them.
-fn print_sky<R: Registrar>(rt: &HostRuntime, radio: &mut R) -> io::Result<()> {
-    let count = radio.rows();
-    println!(rt; "rows: {count}")?;
-    for place in 0..count {
-        print_row(rt, radio, place)?;
-    }
-    Ok(())
+/// A radio that is walked, and where its answers are printed.
+#[derive(Drop)]
+struct Walk<'w, R> {
+    rt: &'w HostRuntime,
+    radio: &'w mut R,
 }
 
-/// Tries the row at a place, and prints its answer or the number of the refusal.
-fn print_try<R: Registrar>(rt: &HostRuntime, radio: &mut R, place: usize) -> io::Result<()> {
-    match radio.attempt(place) {
-        Ok(Answer::Acceptance(count)) => println!(rt; "try {place}: accepted, codes {count}"),
-        Ok(Answer::Rejection(cause)) => println!(rt; "try {place}: rejected, cause {cause}"),
-        Ok(Answer::Silence) => println!(rt; "try {place}: silent"),
-        Err(refusal) => {
-            let number = refusal.number();
-            println!(rt; "try {place}: refused {number}")
+impl<R: Registrar> Walk<'_, R> {
+    /// Prints the row at a place, or the number of the refusal.
+    fn row(&mut self, place: usize) -> io::Result<()> {
+        match self.radio.entry(place) {
+            Ok(row) => {
+                let code = CodeBytes(row.code);
+                let technology = row.technology;
+                let area = row.area;
+                let level = row.level;
+                println!(self.rt; "row {place}: {code} {technology} {area} {level}")
+            }
+            Err(refusal) => println!(self.rt; "row {place}: refused {}", u8::from(refusal)),
         }
     }
-}
 
-/// Prints the code at an index of the acceptance of the row at a place.
-fn print_code<R: Registrar>(
-    rt: &HostRuntime,
-    radio: &mut R,
-    place: usize,
-    index: usize,
-) -> io::Result<()> {
-    let code = radio.accepted_code(place, index);
-    let a = code.first;
-    let b = code.second;
-    let c = code.third;
-    println!(rt; "code {place} {index}: {a:02X}{b:02X}{c:02X}")
-}
+    /// Prints how many rows the sky now has, and each of them.
+    fn sky(&mut self) -> io::Result<()> {
+        let count = self.radio.rows();
+        println!(self.rt; "rows: {count}")?;
+        for place in 0..count {
+            self.row(place)?;
+        }
+        Ok(())
+    }
 
-fn print_empty<R: Registrar>(rt: &HostRuntime, radio: &mut R) -> io::Result<()> {
-    print_sky(rt, radio)?;
-    radio.seek();
-    print_sky(rt, radio)?;
-    print_row(rt, radio, 0)?;
-    print_try(rt, radio, 0)?;
-    print_code(rt, radio, 0, 0)
+    /// Tries the row at a place, and prints its answer or the number of the refusal.
+    fn attempt(&mut self, place: usize) -> io::Result<()> {
+        match self.radio.attempt(place) {
+            Ok(Answer::Acceptance(count)) => {
+                println!(self.rt; "try {place}: accepted, codes {count}")
+            }
+            Ok(Answer::Rejection(cause)) => {
+                println!(self.rt; "try {place}: rejected, cause {cause}")
+            }
+            Ok(Answer::Silence) => println!(self.rt; "try {place}: silent"),
+            Err(refusal) => println!(self.rt; "try {place}: refused {}", u8::from(refusal)),
+        }
+    }
+
+    /// Prints the code at an index of the acceptance of the row at a place.
+    fn code(&mut self, place: usize, index: usize) -> io::Result<()> {
+        let code = CodeBytes(self.radio.accepted_code(place, index));
+        println!(self.rt; "code {place} {index}: {code}")
+    }
+
+    fn empty(&mut self) -> io::Result<()> {
+        self.sky()?;
+        self.radio.seek();
+        self.sky()?;
+        self.row(0)?;
+        self.attempt(0)?;
+        self.code(0, 0)
+    }
+
+    /// The first sky of the nested radio.
+    fn nested_first(&mut self) -> io::Result<()> {
+        self.sky()?;
+        self.code(1, 0)?;
+        self.attempt(0)?;
+        self.code(1, 0)?;
+        self.attempt(1)?;
+        self.code(0, 0)?;
+        self.code(1, 0)?;
+        self.code(1, 1)?;
+        self.code(1, 2)?;
+        self.code(2, 4)?;
+        self.attempt(2)?;
+        self.code(2, 4)?;
+        self.code(2, 5)?;
+        self.attempt(3)?;
+        self.code(3, 0)?;
+        self.row(5)?;
+        self.attempt(5)?;
+        self.code(5, 0)
+    }
+
+    /// The second sky: the marks of the first are gone.
+    fn nested_second(&mut self) -> io::Result<()> {
+        self.sky()?;
+        self.code(1, 0)?;
+        self.attempt(1)?;
+        self.code(1, 0)?;
+        self.code(0, 0)
+    }
+
+    fn nested_skies(&mut self) -> io::Result<()> {
+        println!(self.rt; "before a search")?;
+        self.sky()?;
+        println!(self.rt; "the first sky")?;
+        self.radio.seek();
+        self.nested_first()?;
+        println!(self.rt; "the second sky")?;
+        self.radio.seek();
+        self.nested_second()?;
+        println!(self.rt; "no sky to come")?;
+        self.radio.seek();
+        self.sky()
+    }
+
+    fn beyond(&mut self) -> io::Result<()> {
+        println!(self.rt; "fifteen rows and ten")?;
+        self.radio.seek();
+        self.sky()?;
+        self.attempt(14)?;
+        self.attempt(19)?;
+        self.code(19, 0)?;
+        self.row(20)?;
+        self.attempt(20)?;
+        self.code(20, 0)
+    }
+
+    fn alone(&mut self) -> io::Result<()> {
+        println!(self.rt; "the ten rows alone")?;
+        self.row(9)?;
+        self.code(4, 0)?;
+        self.code(5, 0)
+    }
 }
 
 /// A table of no rows has no sky to come.
 pub fn no_rows(rt: &HostRuntime) -> io::Result<()> {
     println!(rt; "a table of no rows")?;
-    let table = guest_table();
-    let mut radio = TableRadio::new(&table[0..0]);
-    print_empty(rt, &mut radio)
+    let mut radio = TableRadio::new(&[]);
+    let mut walk = Walk {
+        rt,
+        radio: &mut radio,
+    };
+    walk.empty()
 }
 
-/// The first sky of the nested radio.
-fn nested_first<R: Registrar>(rt: &HostRuntime, radio: &mut R) -> io::Result<()> {
-    print_sky(rt, radio)?;
-    print_code(rt, radio, 1, 0)?;
-    print_try(rt, radio, 0)?;
-    print_code(rt, radio, 1, 0)?;
-    print_try(rt, radio, 1)?;
-    print_code(rt, radio, 0, 0)?;
-    print_code(rt, radio, 1, 0)?;
-    print_code(rt, radio, 1, 1)?;
-    print_code(rt, radio, 1, 2)?;
-    print_code(rt, radio, 2, 4)?;
-    print_try(rt, radio, 2)?;
-    print_code(rt, radio, 2, 4)?;
-    print_code(rt, radio, 2, 5)?;
-    print_try(rt, radio, 3)?;
-    print_code(rt, radio, 3, 0)?;
-    print_row(rt, radio, 5)?;
-    print_try(rt, radio, 5)?;
-    print_code(rt, radio, 5, 0)
-}
-
-/// The second sky: the marks of the first are gone.
-fn nested_second<R: Registrar>(rt: &HostRuntime, radio: &mut R) -> io::Result<()> {
-    print_sky(rt, radio)?;
-    print_code(rt, radio, 1, 0)?;
-    print_try(rt, radio, 1)?;
-    print_code(rt, radio, 1, 0)?;
-    print_code(rt, radio, 0, 0)
-}
-
-fn nested_skies<R: Registrar>(rt: &HostRuntime, radio: &mut R) -> io::Result<()> {
-    println!(rt; "before a search")?;
-    print_sky(rt, radio)?;
-    println!(rt; "the first sky")?;
-    radio.seek();
-    nested_first(rt, radio)?;
-    println!(rt; "the second sky")?;
-    radio.seek();
-    nested_second(rt, radio)?;
-    println!(rt; "no sky to come")?;
-    radio.seek();
-    print_sky(rt, radio)
+fn walk_nested<R: Registrar>(rt: &HostRuntime, radio: &mut R) -> io::Result<()> {
+    let mut walk = Walk { rt, radio };
+    walk.nested_skies()
 }
 
 /// A table behind a mask of GSM and UTRAN, joined with another table.
@@ -132,36 +171,25 @@ pub fn nested(rt: &HostRuntime) -> io::Result<()> {
     let technologies = TechnologySet { bits: 0x8080 };
     let masked = Masked::new(TableRadio::new(&home), technologies);
     let mut radio = Joined::new(masked, TableRadio::new(&guest));
-    nested_skies(rt, &mut radio)
-}
-
-fn print_beyond<R: Registrar>(rt: &HostRuntime, radio: &mut R) -> io::Result<()> {
-    println!(rt; "fifteen rows and ten")?;
-    radio.seek();
-    print_sky(rt, radio)?;
-    print_try(rt, radio, 14)?;
-    print_try(rt, radio, 19)?;
-    print_code(rt, radio, 19, 0)?;
-    print_row(rt, radio, 20)?;
-    print_try(rt, radio, 20)?;
-    print_code(rt, radio, 20, 0)
-}
-
-fn print_alone<R: Registrar>(rt: &HostRuntime, radio: &mut R) -> io::Result<()> {
-    println!(rt; "the ten rows alone")?;
-    print_row(rt, radio, 9)?;
-    print_code(rt, radio, 4, 0)?;
-    print_code(rt, radio, 5, 0)
+    walk_nested(rt, &mut radio)
 }
 
 /// Fifteen rows joined with ten: the last five are not shown, and stay untried.
 pub fn beyond_twenty(rt: &HostRuntime) -> io::Result<()> {
     let table = long_block();
-    let silent = TableRadio::new(&table[0..15]);
-    let accepting = TableRadio::new(&table[15..25]);
+    let silent = TableRadio::new(&table[..15]);
+    let accepting = TableRadio::new(&table[15..]);
     let mut radio = Joined::new(silent, accepting);
-    print_beyond(rt, &mut radio)?;
-    print_alone(rt, &mut radio.second)
+    let mut both = Walk {
+        rt,
+        radio: &mut radio,
+    };
+    both.beyond()?;
+    let mut second = Walk {
+        rt,
+        radio: &mut radio.second,
+    };
+    second.alone()
 }
 
 /// Of a table of 10,020 rows the first 10,000 are read.

@@ -6,7 +6,7 @@ use super::table::TableRadio;
 use plmn::{Code, Row};
 use radio::{Answer, Finder, Registrar};
 use refusal::Refusal;
-use table_rows::{answer_of, code_of, item_at};
+use table_rows::{answer_of, code_of};
 
 impl<'a> Finder for TableRadio<'a> {
     ghost sky = { λ t. table_sky t.here.now t.rest.now };
@@ -22,10 +22,7 @@ impl<'a> Finder for TableRadio<'a> {
     }
 
     fn row(&mut self, place: usize) -> Result<Row, Refusal> {
-        match item_at(self.here, place) {
-            Some(found) => Ok(found.row),
-            None => Err(Refusal::NoRow),
-        }
+        self.found_row(place)
     }
 }
 
@@ -43,32 +40,19 @@ impl<'a> Registrar for TableRadio<'a> {
     }
 
     fn entry(&mut self, place: usize) -> Result<Row, Refusal> {
-        match item_at(self.here, place) {
-            Some(found) => Ok(found.row),
-            None => Err(Refusal::NoRow),
-        }
+        self.found_row(place)
     }
 
     fn attempt(&mut self, place: usize) -> Result<Answer, Refusal> {
-        match item_at(self.here, place) {
-            Some(found) => {
-                mark(&mut self.tried, place);
-                Ok(answer_of(found))
-            }
-            None => Err(Refusal::NoRow),
-        }
+        let found = self.found(place)?;
+        mark(&mut self.tried, place);
+        Ok(answer_of(found))
     }
 
     fn accepted_code(&mut self, place: usize, index: usize) -> Code {
-        match item_at(self.here, place) {
-            Some(found) => {
-                if self.tried[place] {
-                    code_of(found, index)
-                } else {
-                    Code::EMPTY
-                }
-            }
-            None => Code::EMPTY,
+        match self.found(place) {
+            Ok(found) if self.tried[place] => code_of(found, index),
+            _ => Code::EMPTY,
         }
     }
 }

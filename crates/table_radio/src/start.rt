@@ -1,8 +1,12 @@
-ghost use Rattle.std.specs.Prelude.{◌≡◌, ◌≤◌, false, length, take, drop, replicate};
+ghost use Rattle.std.specs.Prelude.{◌≡◌, ◌<◌, ◌≤◌, OnOk, false, length, take, drop, replicate};
 ghost use Rattle.std.specs.List.{slice_get};
+ghost use Rattle.std.specs.Option.{ok_or, option_map};
+ghost use Rattle.refusal.specs.declared.Refusal.TheVariants.{NoRow};
 ghost use Rattle.table_rows.specs.Tables.{cut, table_sky, table_air, start_sky, start_air};
 
 use super::table::TableRadio;
+use plmn::Row;
+use refusal::Refusal;
 use table_rows::{TableRow, first_rows, first_sky, item_at, rows_after};
 
 impl<'a> TableRadio<'a> {
@@ -12,7 +16,7 @@ impl<'a> TableRadio<'a> {
         ensures air { table_air result.here.now result.tried result.rest.now ≡ start_air table.now }
     {
         TableRadio {
-            here: &table[0..0],
+            here: &[],
             tried: [false; 20],
             rest: first_rows(table, 10000),
         }
@@ -33,8 +37,22 @@ impl<'a> TableRadio<'a> {
     pub fn is_tried(&self, place: usize) -> Option<bool>
         ensures { result ≡ slice_get (take (length self.now.here.now) self.now.tried) place }
     {
-        let count = self.here.len();
-        item_at(&self.tried[0..count], place)
+        item_at(&self.tried[..self.here.len()], place)
+    }
+
+    /// The row of the table at a place of the sky now, or the refusal.
+    pub(crate) fn found(&self, place: usize) -> Result<TableRow, Refusal>
+        ensures value { result ≡ ok_or (slice_get self.now.here.now place) NoRow }
+        ensures within { OnOk result (place < length self.now.here.now) }
+    {
+        item_at(self.here, place).ok_or(Refusal::NoRow)
+    }
+
+    /// The row at a place of the sky now, or the refusal.
+    pub(crate) fn found_row(&self, place: usize) -> Result<Row, Refusal>
+        ensures { result ≡ ok_or (option_map (λ e. e.row) (slice_get self.now.here.now place)) NoRow }
+    {
+        self.found(place).map(|found| found.row)
     }
 
     /// How many rows the sky now has.

@@ -14,8 +14,7 @@ pub fn answer_of(entry: TableRow) -> Answer
 {
     match entry.answer {
         Answer::Acceptance(n) => Answer::Acceptance(n.min(5)),
-        Answer::Rejection(cause) => Answer::Rejection(cause),
-        Answer::Silence => Answer::Silence,
+        other => other,
     }
 }
 
@@ -25,13 +24,9 @@ pub fn code_of(entry: TableRow, index: usize) -> Code
 {
     match entry.answer {
         Answer::Acceptance(n) => {
-            if index < n.min(5) as usize {
-                entry.codes[index]
-            } else {
-                Code::EMPTY
-            }
+            let codes = &entry.codes[..n.min(5) as usize];
+            codes.get(index).copied().unwrap_or(Code::EMPTY)
         }
-        Answer::Rejection(_) => Code::EMPTY,
-        Answer::Silence => Code::EMPTY,
+        Answer::Rejection(_) | Answer::Silence => Code::EMPTY,
     }
 }

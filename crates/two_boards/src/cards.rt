@@ -13,12 +13,8 @@ pub fn bare_card() -> BareCard {
 /// The files one after the other: IMSI, administrative data, then bytes FF for the forbidden list and the location.
 pub fn image() -> [u8; 36] {
     let mut bytes = [0xFF; 36];
-    for i in 0..9 {
-        bytes[i] = IMSI[i];
-    }
-    for i in 0..4 {
-        bytes[9 + i] = ADMIN[i];
-    }
+    bytes[..9].copy_from_slice(&IMSI);
+    bytes[9..13].copy_from_slice(&ADMIN);
     bytes
 }
 

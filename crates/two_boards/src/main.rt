@@ -47,7 +47,7 @@ const SECOND_ROOMS: [usize; 17] = [40, 21, 7, 7, 0, 255, 20, 7, 7, 40, 7, 7, 7, 
 
 fn show(rt: &HostRuntime, heading: &str, transcript: &Transcript) -> io::Result<()> {
     println!(rt; "{heading}")?;
-    if transcript.broken_off {
+    if transcript.outcome.is_err() {
         println!(rt; "not enough memory")?;
     }
     let text = transcript.text.as_str();
