@@ -6,45 +6,20 @@ ghost use Rattle.refusal.specs.declared.Refusal.TheVariants.{NeededFile};
 use card::{Card, take_file};
 use plmn::Code;
 use refusal::{FileFault, Refusal};
-use std::alloc::{AllocError, Global};
-
-/// The capital digit of a value.
-fn hex_digit(value: u8) -> u8
-    requires { value < 16 }
-    ensures value { result ≡ hex_digit value }
-    ensures small { result < 128 }
-{
-    if value < 10 {
-        b'0' + value
-    } else {
-        b'A' + (value - 10)
-    }
-}
-
-fn push_digit(out: &mut String, value: u8) -> Result<(), AllocError>
-    requires { value < 16 }
-    ensures { OnOk result (string_bytes out.new ≡ string_bytes out.old ++ hex_digit value ∷ []) }
-{
-    out.push(hex_digit(value) as char)?;
-    Ok(())
-}
+use std::alloc::AllocError;
 
 /// Two capital digits.
 pub fn push_byte(out: &mut String, byte: u8) -> Result<(), AllocError>
     ensures { OnOk result (string_bytes out.new ≡ string_bytes out.old ++ byte_text byte) }
 {
-    push_digit(out, byte / 16)?;
-    push_digit(out, byte % 16)?;
-    Ok(())
+    write!(out, "{byte:02X}")
 }
 
 /// Four capital digits.
 pub fn push_number(out: &mut String, number: u16) -> Result<(), AllocError>
     ensures { OnOk result (string_bytes out.new ≡ string_bytes out.old ++ number_text number) }
 {
-    push_byte(out, (number / 256) as u8)?;
-    push_byte(out, (number % 256) as u8)?;
-    Ok(())
+    push_digits(out, &number.to_be_bytes())
 }
 
 fn push_digits(out: &mut String, bytes: &[u8]) -> Result<(), AllocError>
@@ -74,7 +49,7 @@ pub fn push_code(out: &mut String, code: Code) -> Result<(), AllocError>
 pub fn push_bytes(out: &mut String, bytes: &[u8]) -> Result<(), AllocError>
     ensures { OnOk result (string_bytes out.new ≡ string_bytes out.old ++ bytes_text bytes.now) }
 {
-    if bytes.len() == 0 {
+    if bytes.is_empty() {
         out.push_str("-")
     } else {
         push_digits(out, bytes)
@@ -92,12 +67,10 @@ fn push_file(out: &mut String, file: u16, bytes: &[u8]) -> Result<(), AllocError
 }
 
 /// The line that says how many files a card has.
-pub fn push_card_head(heap: Global, out: &mut String, count: usize) -> Result<(), AllocError>
+pub fn push_card_head(out: &mut String, count: usize) -> Result<(), AllocError>
     ensures { OnOk result (string_bytes out.new ≡ string_bytes out.old ++ card_head count) }
 {
-    let head = format!(in heap; "card: {count} files\n")?;
-    out.push_str(head.as_str())?;
-    Ok(())
+    writeln!(out, "card: {count} files")
 }
 
 /// A line for a file that the card has now.
@@ -106,8 +79,7 @@ fn push_taken<C: Card>(out: &mut String, card: &mut C, file: u16) -> Result<(), 
     ensures same { C.Card.files card.new ≡ C.Card.files card.old }
 {
     let taken = take_file(card, file);
-    push_file(out, file, taken.bytes())?;
-    Ok(())
+    push_file(out, file, taken.bytes())
 }
 
 fn push_files<C: Card>(out: &mut String, card: &mut C, numbers: &[u16]) -> Result<(), AllocError>
@@ -121,18 +93,12 @@ fn push_files<C: Card>(out: &mut String, card: &mut C, numbers: &[u16]) -> Resul
 }
 
 /// The files that a card has now, of these numbers and in their order.
-pub fn push_card<C: Card>(
-    heap: Global,
-    out: &mut String,
-    card: &mut C,
-    numbers: &[u16],
-) -> Result<(), AllocError>
+pub fn push_card<C: Card>(out: &mut String, card: &mut C, numbers: &[u16]) -> Result<(), AllocError>
     ensures after { OnOk result (string_bytes out.new ≡ string_bytes out.old ++ card_text (C.Card.files card.old) numbers.now) }
     ensures same { C.Card.files card.new ≡ C.Card.files card.old }
 {
-    push_card_head(heap, out, numbers.len())?;
-    push_files(out, card, numbers)?;
-    Ok(())
+    push_card_head(out, numbers.len())?;
+    push_files(out, card, numbers)
 }
 
 fn push_fault(out: &mut String, fault: FileFault) -> Result<(), AllocError>
@@ -149,8 +115,7 @@ fn push_needed(out: &mut String, file: u16, fault: FileFault) -> Result<(), Allo
 {
     push_number(out, file)?;
     out.push_str(" ")?;
-    push_fault(out, fault)?;
-    Ok(())
+    push_fault(out, fault)
 }
 
 /// The word of a refusal that names no file.
@@ -178,36 +143,29 @@ fn push_refusal_word(out: &mut String, refusal: Refusal) -> Result<(), AllocErro
 {
     match refusal {
         Refusal::NeededFile(file, fault) => push_needed(out, file, fault),
-        _ => {
-            out.push_str(refusal_word(refusal))?;
-            Ok(())
-        }
+        _ => out.push_str(refusal_word(refusal)),
     }
 }
 
-fn push_refused_head(heap: Global, out: &mut String, number: u8) -> Result<(), AllocError>
+fn push_refused_head(out: &mut String, number: u8) -> Result<(), AllocError>
     ensures { OnOk result (string_bytes out.new ≡ string_bytes out.old ++ refused_head number) }
 {
-    let head = format!(in heap; "refused {number} ")?;
-    out.push_str(head.as_str())?;
-    Ok(())
+    write!(out, "refused {number} ")
 }
 
 /// A refusal by its number and its word.
-pub fn push_refusal(heap: Global, out: &mut String, refusal: Refusal) -> Result<(), AllocError>
+pub fn push_refusal(out: &mut String, refusal: Refusal) -> Result<(), AllocError>
     ensures { OnOk result (string_bytes out.new ≡ string_bytes out.old ++ refusal_text refusal) }
 {
-    push_refused_head(heap, out, refusal.number())?;
-    push_refusal_word(out, refusal)?;
-    Ok(())
+    push_refused_head(out, u8::from(refusal))?;
+    push_refusal_word(out, refusal)
 }
 
 /// The one line of a scenario whose settings are refused.
-pub fn push_settings(heap: Global, out: &mut String) -> Result<(), AllocError>
+pub fn push_settings(out: &mut String) -> Result<(), AllocError>
     ensures { OnOk result (string_bytes out.new ≡ string_bytes out.old ++ settings_text) }
 {
     out.push_str("settings: ")?;
-    push_refusal(heap, out, Refusal::Technologies)?;
-    out.push_str("\n")?;
-    Ok(())
+    push_refusal(out, Refusal::Technologies)?;
+    out.push_str("\n")
 }

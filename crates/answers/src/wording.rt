@@ -5,7 +5,7 @@ use super::printing::{push_byte, push_card_head, push_number};
 use card::{
     Card, EF_AD, EF_EHPLMN, EF_FPLMN, EF_IMSI, EF_LOCI, EF_OPLMN_W_ACT, EF_PLMN_W_ACT, take_file,
 };
-use std::alloc::{AllocError, Global};
+use std::alloc::AllocError;
 
 /// The name of a file in 3GPP TS 31.102, at one width.
 fn file_name(file: u16) -> &'static str {
@@ -43,14 +43,13 @@ fn describe_file(out: &mut String, file: u16, bytes: &[u8]) -> Result<(), AllocE
 
 /// The files that a card has now, with their names.
 pub fn describe_card<C: Card>(
-    heap: Global,
     out: &mut String,
     card: &mut C,
     numbers: &[u16],
 ) -> Result<(), AllocError>
     ensures same { C.Card.files card.new ≡ C.Card.files card.old }
 {
-    push_card_head(heap, out, numbers.len())?;
+    push_card_head(out, numbers.len())?;
     for file in numbers {
         let taken = take_file(card, *file);
         describe_file(out, *file, taken.bytes())?;

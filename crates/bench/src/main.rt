@@ -3,16 +3,12 @@
 
 #![tactic(auto)]
 
+use anyhow::{Result, bail};
 use play::{Style, play};
 use scenario::read;
-use std::fmt::Display;
 use std::io::Read;
 use std::process::ExitCode;
 use std::{env, fs, io};
-
-/// Ends the program with status 1; why stands on standard error.
-#[derive(Drop)]
-struct Failed;
 
 /// What the command line asks for.
 #[derive(Drop)]
@@ -21,25 +17,20 @@ struct Command {
     path: Option<String>,
 }
 
-fn report(rt: &HostRuntime, why: impl Display + Drop) -> Failed {
-    let _ = rt.eprintln(why);
-    Failed
-}
-
-/// The command line; none where it has a second file.
-fn command_line(rt: &HostRuntime) -> io::Result<Option<Command>> {
+/// The command line, which names one file at most.
+fn command_line(rt: &HostRuntime) -> Result<Command> {
     let mut style = Style::Plain;
     let mut path = None;
     for word in env::args(rt)?.skip(1) {
         if word.as_str() == "--words" {
             style = Style::Words;
         } else if path.is_some() {
-            return Ok(None);
+            bail!("usage: bench [--words] [FILE]");
         } else {
             path = Some(word);
         }
     }
-    Ok(Some(Command { style, path }))
+    Ok(Command { style, path })
 }
 
 /// The bytes of the file, or of standard input.
@@ -54,33 +45,22 @@ fn source(rt: &HostRuntime, path: &Option<String>) -> io::Result<Vec<u8>> {
     }
 }
 
-fn run(rt: &HostRuntime) -> Result<(), Failed> {
-    let command = match command_line(rt) {
-        Ok(Some(command)) => command,
-        Ok(None) => return Err(report(rt, "usage: bench [--words] [FILE]")),
-        Err(error) => return Err(report(rt, error)),
-    };
-    let text = match source(rt, &command.path) {
-        Ok(text) => text,
-        Err(error) => return Err(report(rt, error)),
-    };
-    let mut scenario = match read(rt.alloc(), text.as_slice()) {
-        Ok(scenario) => scenario,
-        Err(fault) => return Err(report(rt, fault)),
-    };
-    let answers = match play(rt.alloc(), &mut scenario, command.style) {
-        Ok(answers) => answers,
-        Err(error) => return Err(report(rt, error)),
-    };
-    match rt.print(answers) {
-        Ok(()) => Ok(()),
-        Err(error) => Err(report(rt, error)),
-    }
+fn run(rt: &HostRuntime) -> Result<()> {
+    let command = command_line(rt)?;
+    let text = source(rt, &command.path)?;
+    let mut scenario = read(rt.alloc(), text.as_slice())?;
+    let answers = play(rt.alloc(), &mut scenario, command.style)?;
+    rt.print(answers)?;
+    Ok(())
 }
 
 fn main(rt: HostRuntime) -> ExitCode {
+    // as in `examples_play`: a crate for these lines alone would be longer than they are
     match run(&rt) {
         Ok(()) => ExitCode::SUCCESS,
-        Err(Failed) => ExitCode::FAILURE,
+        Err(error) => {
+            let _ = rt.eprintln(error);
+            ExitCode::FAILURE
+        }
     }
 }

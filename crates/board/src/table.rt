@@ -5,6 +5,8 @@ use statements::SkyRow;
 use std::alloc::{AllocError, Global};
 use table_radio::TableRow;
 
+const NO_CODES: [Code; 5] = [Code::EMPTY; 5];
+
 /// A row of the empty code: it ends a sky.
 const END: TableRow = TableRow {
     row: Row {
@@ -14,18 +16,17 @@ const END: TableRow = TableRow {
         level: 0,
     },
     answer: Answer::Silence,
-    codes: [Code::EMPTY; 5],
+    codes: NO_CODES,
 };
 
 fn table_row(found: SkyRow) -> TableRow {
-    let mut codes = [Code::EMPTY; 5];
-    let answer = match found.answer {
+    let (answer, codes) = match found.answer {
         statements::Answer::Accept(given) => {
-            codes = given.codes;
-            Answer::Acceptance(given.count.min(5) as u8)
+            let codes = given.codes;
+            (Answer::Acceptance(given.count.min(5) as u8), codes)
         }
-        statements::Answer::Cause(cause) => Answer::Rejection(cause),
-        statements::Answer::Silent => Answer::Silence,
+        statements::Answer::Cause(cause) => (Answer::Rejection(cause), NO_CODES),
+        statements::Answer::Silent => (Answer::Silence, NO_CODES),
     };
     TableRow {
         row: found.row,
@@ -36,38 +37,26 @@ fn table_row(found: SkyRow) -> TableRow {
 
 /// A block of the table: the first twenty rows of a sky, filled up to twenty.
 fn push_sky(table: &mut Vec<TableRow>, rows: &[SkyRow]) -> Result<(), AllocError> {
-    for place in 0..20 {
-        if place < rows.len() {
-            table.push(table_row(rows[place]))?;
-        } else {
-            table.push(END)?;
-        }
+    for row in rows.iter().take(20) {
+        table.push(table_row(*row))?;
+    }
+    for _ in rows.len()..20 {
+        table.push(END)?;
     }
     Ok(())
-}
-
-/// The rows from one place to another, where there are such.
-fn rows_between(rows: &[SkyRow], start: usize, end: usize) -> &[SkyRow] {
-    if start <= end && end <= rows.len() {
-        &rows[start..end]
-    } else {
-        &rows[0..0]
-    }
 }
 
 /// The table of all skies of a scenario.
 pub fn table_of(heap: Global, scenario: &Scenario) -> Result<Vec<TableRow>, AllocError> {
     let mut table = Vec::new(heap);
     let rows = scenario.rows.as_slice();
-    let mut start = None;
-    for first in scenario.skies.as_slice() {
-        if let Some(begin) = start {
-            push_sky(&mut table, rows_between(rows, begin, *first))?;
-        }
-        start = Some(*first);
-    }
-    if let Some(begin) = start {
-        push_sky(&mut table, rows_between(rows, begin, rows.len()))?;
+    let starts = scenario.skies.as_slice();
+    for (i, start) in starts.iter().enumerate() {
+        let end = starts
+            .get(i.saturating_add(1))
+            .copied()
+            .unwrap_or(rows.len());
+        push_sky(&mut table, rows.get(*start..end).unwrap_or(&[]))?;
     }
     Ok(table)
 }

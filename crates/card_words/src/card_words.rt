@@ -6,7 +6,7 @@ use std::alloc::AllocError;
 
 /// The bytes with a space before each, or `-` where there is none.
 fn write_bytes(out: &mut String, bytes: &[u8]) -> Result<(), AllocError> {
-    if bytes.len() == 0 {
+    if bytes.is_empty() {
         return write!(out, " -");
     }
     for byte in bytes {
@@ -16,7 +16,7 @@ fn write_bytes(out: &mut String, bytes: &[u8]) -> Result<(), AllocError> {
 }
 
 fn describe_file(out: &mut String, file: u16, bytes: &[u8]) -> Result<(), AllocError> {
-    let name = file_name(file);
+    let name = file_name(file).unwrap_or("");
     write!(out, "  {file:04X} {name:<12}")?;
     write_bytes(out, bytes)?;
     writeln!(out)

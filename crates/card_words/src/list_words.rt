@@ -1,43 +1,17 @@
 use entry_list::Listed;
-use names::{Network, technologies};
+use names::{Network, Networks, technologies};
 use plmn::{Code, TechnologySet};
 use std::alloc::AllocError;
 
-fn is_hole(entry: Listed) -> bool {
-    entry.code.equals(Code::EMPTY)
-}
-
-/// The next code of a row of codes, with a comma before it unless it is the first; a hole is left out. Says whether a code stands
-/// there now.
-fn write_next(out: &mut String, entry: Listed, started: bool) -> Result<bool, AllocError> {
-    if is_hole(entry) {
-        return Ok(started);
-    }
-    let network = Network(entry.code);
-    if started {
-        write!(out, ", {network}")?;
-    } else {
-        write!(out, "{network}")?;
-    }
-    Ok(true)
+fn is_hole(entry: &Listed) -> bool {
+    entry.code == Code::EMPTY
 }
 
 /// The codes of the entries that are no holes, or `none`.
 pub(crate) fn write_codes(out: &mut String, entries: &[Listed]) -> Result<(), AllocError> {
-    let mut started = false;
-    for entry in entries {
-        started = write_next(out, *entry, started)?;
-    }
-    if started { Ok(()) } else { write!(out, "none") }
-}
-
-fn has_entries(entries: &[Listed]) -> bool {
-    for entry in entries {
-        if !is_hole(*entry) {
-            return true;
-        }
-    }
-    false
+    let heap = *out.allocator();
+    let codes: Vec<Code> = entries.iter().map(|entry| entry.code).collect(heap)?;
+    write!(out, "{}", Networks(codes.as_slice()))
 }
 
 /// A line for an entry, with its position.
@@ -63,14 +37,16 @@ pub(crate) fn write_list(
     entries: &[Listed],
     supported: TechnologySet,
 ) -> Result<(), AllocError> {
-    if !has_entries(entries) {
+    if entries.iter().all(is_hole) {
         return writeln!(out, "  {name:<15}  none");
     }
     writeln!(out, "  {name}")?;
-    for (position, entry) in entries.iter().enumerate() {
-        if !is_hole(*entry) {
-            write_entry(out, position, *entry, supported)?;
-        }
+    for (position, entry) in entries
+        .iter()
+        .enumerate()
+        .filter(|(_, entry)| !is_hole(entry))
+    {
+        write_entry(out, position, *entry, supported)?;
     }
     Ok(())
 }

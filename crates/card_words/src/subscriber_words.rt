@@ -20,86 +20,80 @@ fn write_digits_fault(out: &mut String, admin: &[u8]) -> Result<(), AllocError> 
     }
 }
 
-/// Why the card gives no IMSI code.
-fn write_imsi_fault(out: &mut String, files: &SubscriberFiles) -> Result<(), AllocError> {
-    if !IMSI.is_met(&files.imsi) {
-        IMSI.write_fault(out, &files.imsi)
-    } else if !ADMIN.is_met(&files.admin) {
-        ADMIN.write_fault(out, &files.admin)
-    } else {
-        write_digits_fault(out, files.admin.bytes())
-    }
-}
-
-/// The IMSI code, where the card gives one.
-fn known_imsi_code(files: &SubscriberFiles) -> Option<Code> {
-    if !IMSI.is_met(&files.imsi) || !ADMIN.is_met(&files.admin) {
-        return None;
-    }
-    match imsi_code(files.imsi.bytes(), files.admin.bytes()) {
-        Ok(code) => Some(code),
-        Err(_) => None,
-    }
-}
-
-fn write_imsi(out: &mut String, files: &SubscriberFiles) -> Result<(), AllocError> {
-    match known_imsi_code(files) {
-        Some(code) => {
-            let network = Network(code);
-            writeln!(out, "  IMSI code        {network}")
-        }
-        None => {
-            write!(out, "  IMSI code        unknown: ")?;
-            write_imsi_fault(out, files)?;
-            writeln!(out)
+impl SubscriberFiles {
+    /// Why the card gives no IMSI code.
+    fn write_imsi_fault(&self, out: &mut String) -> Result<(), AllocError> {
+        if !IMSI.is_met(&self.imsi) {
+            IMSI.write_fault(out, &self.imsi)
+        } else if !ADMIN.is_met(&self.admin) {
+            ADMIN.write_fault(out, &self.admin)
+        } else {
+            write_digits_fault(out, self.admin.bytes())
         }
     }
-}
 
-/// The registered code; a location that is too short has none.
-fn write_registered(out: &mut String, files: &SubscriberFiles) -> Result<(), AllocError> {
-    if !LOCATION.is_met(&files.location) {
-        return writeln!(out, "  registered code  unknown");
-    }
-    match registered_code(files.location.bytes()) {
-        Some(code) => {
-            let network = Network(code);
-            writeln!(out, "  registered code  {network}")
+    /// The IMSI code, where the card gives one.
+    fn known_imsi_code(&self) -> Option<Code> {
+        if !IMSI.is_met(&self.imsi) || !ADMIN.is_met(&self.admin) {
+            return None;
         }
-        None => writeln!(out, "  registered code  none"),
+        imsi_code(self.imsi.bytes(), self.admin.bytes()).ok()
     }
-}
 
-/// The home codes and the forbidden ones.
-fn write_code_lists(out: &mut String, files: &SubscriberFiles) -> Result<(), AllocError> {
-    let listed = EntryList::read::<ShortEntry>(&files.home);
-    let imsi = known_imsi_code(files).unwrap_or(Code::EMPTY);
-    let list = home_codes(&listed, imsi);
-    let home = Networks(list.codes());
-    let forbidden = EntryList::read::<ShortEntry>(&files.forbidden);
-    write!(out, "  home codes       {home}\n  forbidden codes  ")?;
-    write_codes(out, forbidden.entries())?;
-    writeln!(out)
-}
+    fn write_imsi(&self, out: &mut String) -> Result<(), AllocError> {
+        write!(out, "  IMSI code        ")?;
+        match self.known_imsi_code() {
+            Some(code) => write!(out, "{}", Network(code))?,
+            None => {
+                write!(out, "unknown: ")?;
+                self.write_imsi_fault(out)?;
+            }
+        }
+        writeln!(out)
+    }
 
-/// The user list and the operator list.
-fn write_entry_lists(
-    out: &mut String,
-    files: &SubscriberFiles,
-    supported: TechnologySet,
-) -> Result<(), AllocError> {
-    let user = EntryList::read::<FullEntry>(&files.user);
-    let operator = EntryList::read::<FullEntry>(&files.operator);
-    write_list(out, "user list", user.entries(), supported)?;
-    write_list(out, "operator list", operator.entries(), supported)
-}
+    /// The registered code; a location that is too short has none.
+    fn write_registered(&self, out: &mut String) -> Result<(), AllocError> {
+        if !LOCATION.is_met(&self.location) {
+            return writeln!(out, "  registered code  unknown");
+        }
+        match registered_code(self.location.bytes()) {
+            Some(code) => writeln!(out, "  registered code  {}", Network(code)),
+            None => writeln!(out, "  registered code  none"),
+        }
+    }
 
-/// A line for each needed file that is absent or short.
-fn write_faults(out: &mut String, files: &SubscriberFiles) -> Result<(), AllocError> {
-    IMSI.write_line(out, &files.imsi)?;
-    ADMIN.write_line(out, &files.admin)?;
-    FORBIDDEN.write_line(out, &files.forbidden)?;
-    LOCATION.write_line(out, &files.location)
+    /// The home codes and the forbidden ones.
+    fn write_code_lists(&self, out: &mut String) -> Result<(), AllocError> {
+        let listed = EntryList::read::<ShortEntry>(&self.home);
+        let imsi = self.known_imsi_code().unwrap_or(Code::EMPTY);
+        let list = home_codes(&listed, imsi);
+        let home = Networks(list.codes());
+        let forbidden = EntryList::read::<ShortEntry>(&self.forbidden);
+        write!(out, "  home codes       {home}\n  forbidden codes  ")?;
+        write_codes(out, forbidden.entries())?;
+        writeln!(out)
+    }
+
+    /// The user list and the operator list.
+    fn write_entry_lists(
+        &self,
+        out: &mut String,
+        supported: TechnologySet,
+    ) -> Result<(), AllocError> {
+        let user = EntryList::read::<FullEntry>(&self.user);
+        let operator = EntryList::read::<FullEntry>(&self.operator);
+        write_list(out, "user list", user.entries(), supported)?;
+        write_list(out, "operator list", operator.entries(), supported)
+    }
+
+    /// A line for each needed file that is absent or short.
+    fn write_faults(&self, out: &mut String) -> Result<(), AllocError> {
+        IMSI.write_line(out, &self.imsi)?;
+        ADMIN.write_line(out, &self.admin)?;
+        FORBIDDEN.write_line(out, &self.forbidden)?;
+        LOCATION.write_line(out, &self.location)
+    }
 }
 
 /// What a card holds of its subscriber; any file may be absent or short.
@@ -111,9 +105,9 @@ pub fn describe_subscriber<C: Card>(
     ensures same { C.Card.files card.new ≡ C.Card.files card.old }
 {
     let files = SubscriberFiles::take(card);
-    write_imsi(out, &files)?;
-    write_registered(out, &files)?;
-    write_code_lists(out, &files)?;
-    write_entry_lists(out, &files, supported)?;
-    write_faults(out, &files)
+    files.write_imsi(out)?;
+    files.write_registered(out)?;
+    files.write_code_lists(out)?;
+    files.write_entry_lists(out, supported)?;
+    files.write_faults(out)
 }

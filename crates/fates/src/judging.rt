@@ -29,6 +29,7 @@ pub fn hindrance(row: Row, supported: TechnologySet, forbidden: &[Code]) -> Opti
 fn closer(done: &[Heard], row: Row) -> Option<usize>
     ensures { MatchOption result (closed done.now row ≡ false) (Closer done.now row) }
 {
+    // a loop: with `position` this contract did not prove
     for (i, heard) in done.iter().enumerate() {
         if heard.closes_row(row) {
             return Some(i);
@@ -41,6 +42,7 @@ fn closer(done: &[Heard], row: Row) -> Option<usize>
 fn ender(done: &[Heard]) -> Option<usize>
     ensures { MatchOption result (ended done.now ≡ false) (Ender done.now) }
 {
+    // a loop: with `position` this contract did not prove
     for (i, heard) in done.iter().enumerate() {
         if heard.ends_run() {
             return Some(i);
@@ -63,15 +65,12 @@ pub fn reason_not_tried(
     if let Some(i) = ender(done) {
         return Some(Reason::NotReached(i));
     }
-    let area = row.in_area();
+    let area = Area::from(row);
     if holds_in(roaming, area) {
         return Some(Reason::RoamingArea);
     }
     if holds_in(regional, area) {
         return Some(Reason::RegionalArea);
     }
-    match closer(done, row) {
-        Some(i) => Some(Reason::Closed(i)),
-        None => None,
-    }
+    closer(done, row).map(Reason::Closed)
 }

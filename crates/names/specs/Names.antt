@@ -4,11 +4,14 @@ use Rattle.plmn.specs.Technologies.{has_technology, with_number}
 use Rattle.plmn.specs.declared.technology.Technology.{Technology}
 use Rattle.plmn.specs.declared.technology.Technology.TheVariants.{Gsm, Utran, Eutran}
 
+abbrev pub known_name : Technology → List ℕ
+known_name Gsm = codes "GSM"
+known_name Utran = codes "UTRAN"
+known_name Eutran = codes "E-UTRAN"
+
 -- the name of a technology; a number that stands for none is written out
 abbrev pub name_by : Option Technology → ℕ → List ℕ
-name_by (Some Gsm) number = codes "GSM"
-name_by (Some Utran) number = codes "UTRAN"
-name_by (Some Eutran) number = codes "E-UTRAN"
+name_by (Some technology) number = known_name technology
 name_by None number = codes "technology " ++ decimal number
 
 abbrev pub name_of : ℕ → List ℕ

@@ -2,8 +2,8 @@ use card::{EF_AD, EF_EHPLMN, EF_FPLMN, EF_IMSI, EF_LOCI, EF_OPLMN_W_ACT, EF_PLMN
 use std::fmt;
 
 /// The name of a file in 3GPP TS 31.102; none for a file that the selector does not know.
-pub fn file_name(file: u16) -> &'static str {
-    match file {
+pub fn file_name(file: u16) -> Option<&'static str> {
+    let name = match file {
         EF_IMSI => "EF_IMSI",
         EF_AD => "EF_AD",
         EF_FPLMN => "EF_FPLMN",
@@ -11,8 +11,9 @@ pub fn file_name(file: u16) -> &'static str {
         EF_EHPLMN => "EF_EHPLMN",
         EF_PLMN_W_ACT => "EF_PLMNwAcT",
         EF_OPLMN_W_ACT => "EF_OPLMNwAcT",
-        _ => "",
-    }
+        _ => return None,
+    };
+    Some(name)
 }
 
 /// A file by its name and number, `EF_LOCI (6F7E)`, or by its number alone.
@@ -22,11 +23,9 @@ pub struct FileName(pub u16);
 impl fmt::Display for FileName {
     fn fmt<W: fmt::Write>(&self, f: &mut fmt::Formatter<W>) -> fmt::Result {
         let number = self.0;
-        let name = file_name(number);
-        if name.len() == 0 {
-            write!(f, "file {number:04X}")
-        } else {
-            write!(f, "{name} ({number:04X})")
+        match file_name(number) {
+            Some(name) => write!(f, "{name} ({number:04X})"),
+            None => write!(f, "file {number:04X}"),
         }
     }
 }

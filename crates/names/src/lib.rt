@@ -8,4 +8,4 @@ mod technology;
 
 pub use files::{FileName, file_name};
 pub use network::{Network, Networks};
-pub use technology::{TechnologyName, technologies};
+pub use technology::{TechnologyName, technologies, technology_name};

@@ -34,8 +34,8 @@ fn code_text(code: Code) -> InlineText<16> {
         third,
     } = code;
     if code.is_valid() {
-        mcc_mnc(code.digits())
-    } else if code.equals(Code::EMPTY) {
+        mcc_mnc(Digits::from(code))
+    } else if code == Code::EMPTY {
         InlineText::of("no code")
     } else {
         InlineText::of(format_args!("{first:02X}{second:02X}{third:02X} (invalid)"))
@@ -48,31 +48,16 @@ impl fmt::Display for Network {
     }
 }
 
-/// The next network, with a comma before it unless it is the first; an empty code is left out. Says whether one stands there
-/// now.
-fn write_next<W: fmt::Write>(
-    f: &mut fmt::Formatter<W>,
-    code: Code,
-    started: bool,
-) -> Result<bool, fmt::Error> {
-    if code.equals(Code::EMPTY) {
-        return Ok(started);
-    }
-    let network = Network(code);
-    if started {
-        write!(f, ", {network}")?;
-    } else {
-        write!(f, "{network}")?;
-    }
-    Ok(true)
-}
-
 impl<'a> fmt::Display for Networks<'a> {
     fn fmt<W: fmt::Write>(&self, f: &mut fmt::Formatter<W>) -> fmt::Result {
-        let mut started = false;
-        for code in self.0 {
-            started = write_next(f, *code, started)?;
+        let mut codes = self.0.iter().filter(|code| **code != Code::EMPTY);
+        let Some(first) = codes.next() else {
+            return f.write_str("none");
+        };
+        write!(f, "{}", Network(*first))?;
+        for code in codes {
+            write!(f, ", {}", Network(*code))?;
         }
-        if started { Ok(()) } else { f.write_str("none") }
+        Ok(())
     }
 }

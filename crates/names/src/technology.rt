@@ -1,5 +1,5 @@
 ghost use Rattle.std.specs.Prelude.{◌≡◌, Some};
-ghost use Rattle.names.specs.Names.{name_of, names_of, set_names};
+ghost use Rattle.names.specs.Names.{known_name, name_of, names_of, set_names};
 
 use plmn::{Technology, TechnologySet};
 use std::fmt;
@@ -8,16 +8,25 @@ use std::fmt;
 #[derive(Clone, Copy)]
 pub struct TechnologyName(pub u8);
 
+/// The name of a technology.
+pub fn technology_name(technology: Technology) -> &'static str
+    ensures { result.now ≡ known_name technology }
+{
+    match technology {
+        Technology::Gsm => "GSM",
+        Technology::Utran => "UTRAN",
+        Technology::Eutran => "E-UTRAN",
+    }
+}
+
 impl fmt::Display for TechnologyName {
     ghost output = { λ t. Some (name_of t.0) };
 
     fn fmt<W: fmt::Write>(&self, f: &mut fmt::Formatter<W>) -> fmt::Result {
         let number = self.0;
-        match Technology::with_number(number) {
-            Some(Technology::Gsm) => f.pad("GSM"),
-            Some(Technology::Utran) => f.pad("UTRAN"),
-            Some(Technology::Eutran) => f.pad("E-UTRAN"),
-            None => write!(f, "technology {number}"),
+        match Technology::try_from(number) {
+            Ok(technology) => f.pad(technology_name(technology)),
+            Err(_) => write!(f, "technology {number}"),
         }
     }
 }

@@ -43,7 +43,7 @@ fn cause_of(refusal: Refusal) -> &'static str {
 
 impl fmt::Display for RefusalWords {
     fn fmt<W: fmt::Write>(&self, f: &mut fmt::Formatter<W>) -> fmt::Result {
-        let number = self.0.number();
+        let number = u8::from(self.0);
         match self.0 {
             Refusal::NeededFile(file, fault) => {
                 let words = FaultWords { file, fault };

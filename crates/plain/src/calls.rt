@@ -3,7 +3,7 @@ ghost use Rattle.selector.specs.Views.{standing};
 ghost use Rattle.agreement.specs.Worlds.{world, started};
 ghost use Rattle.plain.specs.Plays.{line_of, left_after, play_text};
 
-use super::lines::{line, run_words};
+use super::lines::{answer, line, push_run};
 use super::marks::{Marked, push_marks};
 use agreement::Call as Made;
 use answers::push_card;
@@ -11,11 +11,10 @@ use card::Card;
 use plmn::Settings;
 use selector::{Off, On};
 use statements::Call;
-use std::alloc::{AllocError, Global};
+use std::alloc::AllocError;
 
 /// Carries out a call, and prints its line. `numbers` are those of the card's files, in the order in which they are printed.
 pub fn play_call<R: Marked, C: Card>(
-    heap: Global,
     out: &mut String,
     on: On,
     radio: &mut R,
@@ -28,34 +27,29 @@ pub fn play_call<R: Marked, C: Card>(
 {
     match call {
         Call::Card => {
-            push_card(heap, out, card, numbers)?;
+            push_card(out, card, numbers)?;
             Ok(on)
         }
         Call::Marks => {
-            push_marks(heap, out, radio)?;
+            push_marks(out, radio)?;
             Ok(on)
         }
         Call::Run(draw, room) => {
-            let text = run_words(heap, draw, room)?;
-            let words = text.as_str();
-            let size = room.unwrap_or(20);
-            line(heap, out, words, on, radio, card, Made::Run(draw), size)
+            push_run(out, draw, room)?;
+            answer(out, on, radio, card, Made::Run(draw), room.unwrap_or(20))
         }
-        Call::Look => line(heap, out, "look: ", on, radio, card, Made::Look, 0),
+        Call::Look => line(out, "look: ", on, radio, card, Made::Look, 0),
         Call::Pick(place) => {
-            let text = format!(in heap; "pick {place}: ")?;
-            let words = text.as_str();
-            let at = place as usize;
-            line(heap, out, words, on, radio, card, Made::Pick(at), 0)
+            write!(out, "pick {place}: ")?;
+            answer(out, on, radio, card, Made::Pick(place as usize), 0)
         }
-        Call::Mode => line(heap, out, "mode: ", on, radio, card, Made::ChangeMode, 0),
-        Call::Restart => line(heap, out, "restart: ", on, radio, card, Made::Restart, 0),
+        Call::Mode => line(out, "mode: ", on, radio, card, Made::ChangeMode, 0),
+        Call::Restart => line(out, "restart: ", on, radio, card, Made::Restart, 0),
     }
 }
 
 /// Plays calls on a new selector, switched on, and prints their lines.
 pub fn play_calls<R: Marked, C: Card>(
-    heap: Global,
     out: &mut String,
     settings: Settings,
     radio: &mut R,
@@ -67,7 +61,7 @@ pub fn play_calls<R: Marked, C: Card>(
 {
     let mut on = Off::new(settings).switch_on();
     for call in calls {
-        on = play_call(heap, out, on, radio, card, numbers, *call)?;
+        on = play_call(out, on, radio, card, numbers, *call)?;
     }
     Ok(())
 }

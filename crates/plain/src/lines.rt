@@ -8,22 +8,21 @@ use agreement::{Call, serve};
 use card::Card;
 use radio::Registrar;
 use selector::On;
-use std::alloc::{AllocError, Global};
+use std::alloc::AllocError;
 use transcript::push_reply;
 
 /// The words of a run.
-pub(crate) fn run_words(heap: Global, draw: u64, room: Option<u8>) -> Result<String, AllocError>
-    ensures { IfOk result (λ s. string_bytes s ≡ words_of_run draw room) }
+pub(crate) fn push_run(out: &mut String, draw: u64, room: Option<u8>) -> Result<(), AllocError>
+    ensures { OnOk result (string_bytes out.new ≡ string_bytes out.old ++ words_of_run draw room) }
 {
     match room {
-        Some(room) => format!(in heap; "run {draw} {room}: "),
-        None => format!(in heap; "run {draw}: "),
+        Some(room) => write!(out, "run {draw} {room}: "),
+        None => write!(out, "run {draw}: "),
     }
 }
 
 /// Makes a call, and prints what it answers. A run has a trail of this room.
 pub(crate) fn answer<R: Registrar, C: Card>(
-    heap: Global,
     out: &mut String,
     on: On,
     radio: &mut R,
@@ -37,14 +36,13 @@ pub(crate) fn answer<R: Registrar, C: Card>(
     let mut trail = [0u8; 255];
     let served = serve(on, radio, card, call, &mut trail, room as usize);
     let n = served.tries;
-    push_reply(heap, out, served.reply, &trail[0..n])?;
+    push_reply(out, served.reply, &trail[0..n])?;
     out.push_str("\n")?;
     Ok(served.on)
 }
 
 /// The words of a call, then what it answers.
 pub(crate) fn line<R: Registrar, C: Card>(
-    heap: Global,
     out: &mut String,
     words: &str,
     on: On,
@@ -57,5 +55,5 @@ pub(crate) fn line<R: Registrar, C: Card>(
     ensures left { IfOk result (λ after. world (standing after) (R.Registrar.air radio.new) (C.Card.files card.new) ≡ left_by call room (world (standing on) (R.Registrar.air radio.old) (C.Card.files card.old))) }
 {
     out.push_str(words)?;
-    answer(heap, out, on, radio, card, call, room)
+    answer(out, on, radio, card, call, room)
 }

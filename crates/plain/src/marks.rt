@@ -1,9 +1,11 @@
-ghost use Rattle.std.specs.Prelude.{◌≡◌, ◌≤◌, ◌++◌, length, take, string_bytes, OnOk};
+ghost use Rattle.std.specs.Prelude.{◌≡◌, ◌++◌, string_bytes, OnOk};
+ghost use Rattle.bounded.specs.Held.{held};
 ghost use Rattle.plain.specs.Plays.{tried_at, marked_below, marks_text};
 
+use bounded::Bounded;
 use radio::Registrar;
 use replies::push_places;
-use std::alloc::{AllocError, Global};
+use std::alloc::AllocError;
 use table_radio::TableRadio;
 
 /// A registrar that also says which rows of the sky now were tried.
@@ -21,34 +23,25 @@ impl<'a> Marked for TableRadio<'a> {
     }
 }
 
-/// Writes the tried places below twenty to the front of `places`, the lowest first; says how many there are.
-fn list_marks<R: Marked>(radio: &R, places: &mut [u8]) -> usize
-    requires { 20 ≤ length places.old }
-    ensures within { result ≤ 20 }
-    ensures value { take result places.new ≡ marked_below (R.Registrar.air radio.now).here 20 }
+/// The tried places of the sky now, the lowest first.
+fn list_marks<R: Marked>(radio: &R) -> Bounded<u8, 20>
+    ensures { held result ≡ marked_below (R.Registrar.air radio.now).here 20 }
 {
-    let mut count = 0;
+    let mut places = Bounded::new(0);
     for place in 0..20u8 {
         if radio.was_tried(place as usize) {
-            places[count] = place;
-            count += 1;
+            places.push(place);
         }
     }
-    count
+    places
 }
 
 /// The tried places of the sky now.
-pub(crate) fn push_marks<R: Marked>(
-    heap: Global,
-    out: &mut String,
-    radio: &R,
-) -> Result<(), AllocError>
+pub(crate) fn push_marks<R: Marked>(out: &mut String, radio: &R) -> Result<(), AllocError>
     ensures { OnOk result (string_bytes out.new ≡ string_bytes out.old ++ marks_text (R.Registrar.air radio.now).here) }
 {
-    let mut places = [0u8; 20];
-    let count = list_marks(radio, &mut places);
+    let places = list_marks(radio);
     out.push_str("marks:")?;
-    push_places(heap, out, &places[0..count])?;
-    out.push_str("\n")?;
-    Ok(())
+    push_places(out, places.as_slice())?;
+    out.push_str("\n")
 }

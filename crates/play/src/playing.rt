@@ -1,9 +1,6 @@
-use super::board::Board;
-use super::calls::{play_look, play_marks, play_mode, play_pick, play_run};
-use super::files::push_files_now;
-use super::table::table_of;
-use super::wording::{describe_files_now, describe_run, describe_sky};
+use super::wording::Teller;
 use answers::push_settings;
+use board::{Board, table_of};
 use packed_card::PackedCard;
 use plmn::{Settings, TechnologySet};
 use scenario::Scenario;
@@ -19,55 +16,47 @@ pub enum Style {
     Words,
 }
 
-/// Plays a call and gives back the selector, which a restart uses up.
-fn play_call(
+/// Plays a call for a person, and gives back the selector, which a restart uses up.
+fn tell_call(
     heap: Global,
     out: &mut String,
     board: &mut Board,
     on: On,
     call: Call,
-    style: Style,
 ) -> Result<On, AllocError> {
     let mut on = on;
+    let mut teller = Teller {
+        heap,
+        out,
+        radio: &mut board.radio,
+        card: &mut board.card,
+        supported: board.supported,
+    };
     match call {
-        Call::Card => match style {
-            Style::Plain => push_files_now(heap, out, &mut board.card)?,
-            Style::Words => describe_files_now(heap, out, board)?,
-        },
-        Call::Marks => play_marks(heap, out, board)?,
-        Call::Run(draw, room) => match style {
-            Style::Plain => {
-                play_run(heap, out, board, &mut on, draw, room)?;
-            }
-            Style::Words => describe_run(heap, out, board, &mut on, draw, room)?,
-        },
+        Call::Card => teller.tell_card()?,
+        Call::Run(draw, room) => teller.tell_run(&mut on, draw, room)?,
         Call::Look => {
-            play_look(heap, out, board, &on)?;
-            if let Style::Words = style {
-                describe_sky(heap, out, board)?;
-            }
+            on = teller.print_call(on, call)?;
+            teller.tell_sky()?;
         }
-        Call::Pick(place) => play_pick(heap, out, board, &mut on, place)?,
-        Call::Mode => play_mode(out, &mut on)?,
-        Call::Restart => {
-            out.push_str("restart: on\n")?;
-            on = on.switch_off().switch_on();
+        Call::Marks | Call::Pick(_) | Call::Mode | Call::Restart => {
+            on = teller.print_call(on, call)?;
         }
     }
     Ok(on)
 }
 
-fn play_calls(
+/// The answers of calls on a new selector, for a person.
+fn tell_calls(
     heap: Global,
     out: &mut String,
     board: &mut Board,
     settings: Settings,
     calls: &[Call],
-    style: Style,
 ) -> Result<(), AllocError> {
     let mut on = Off::new(settings).switch_on();
     for call in calls {
-        on = play_call(heap, out, board, on, *call, style)?;
+        on = tell_call(heap, out, board, on, *call)?;
     }
     Ok(())
 }
@@ -78,28 +67,21 @@ pub fn play(heap: Global, scenario: &mut Scenario, style: Style) -> Result<Strin
     let supported = TechnologySet {
         bits: scenario.supported,
     };
-    let settings = match Settings::check(supported) {
-        Ok(settings) => settings,
-        Err(_) => {
-            push_settings(heap, &mut out)?;
-            return Ok(out);
-        }
+    let Ok(settings) = Settings::check(supported) else {
+        push_settings(&mut out)?;
+        return Ok(out);
     };
+    // as in `told_play`: a function for both would lend the board to a closure, and require that it may be called
     let table = table_of(heap, scenario)?;
-    let radio = TableRadio::new(table.as_slice());
-    let card = PackedCard::new(scenario.image.as_mut_slice(), scenario.directory.as_slice());
     let mut board = Board {
-        radio,
-        card,
+        radio: TableRadio::new(table.as_slice()),
+        card: PackedCard::new(scenario.image.as_mut_slice(), scenario.directory.as_slice()),
         supported,
     };
-    play_calls(
-        heap,
-        &mut out,
-        &mut board,
-        settings,
-        scenario.calls.as_slice(),
-        style,
-    )?;
+    let calls = scenario.calls.as_slice();
+    match style {
+        Style::Plain => board.print_calls(heap, &mut out, settings, calls)?,
+        Style::Words => tell_calls(heap, &mut out, &mut board, settings, calls)?,
+    }
     Ok(out)
 }

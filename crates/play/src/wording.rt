@@ -1,83 +1,66 @@
 //! The same play for a person.
-use super::board::{Board, file_numbers};
-use super::calls::play_run;
 use answers::describe_card;
-use order::Preferences;
-use person::{describe_order, describe_rows, describe_subscriber};
-use plmn::Row;
-use radio::{Finder, Registrar};
+use board::{file_numbers, preferences_now, rows_now};
+use card_words::describe_subscriber;
+use packed_card::PackedCard;
+use person::{describe_order, describe_rows};
+use phrases::RunHead;
+use plain::play_call;
+use plmn::TechnologySet;
+use replies::push_ran;
 use selector::On;
+use statements::Call;
 use std::alloc::{AllocError, Global};
-use subscriber::{Identity, Subscriber};
+use table_radio::TableRadio;
 
-/// The files that a card has now, and what they say.
-pub(crate) fn describe_files_now(
-    heap: Global,
-    out: &mut String,
-    board: &mut Board,
-) -> Result<(), AllocError> {
-    let numbers = file_numbers(heap, &board.card)?;
-    describe_card(heap, out, &mut board.card, numbers.as_slice())?;
-    describe_subscriber(heap, out, &mut board.card, board.supported)
+/// A play that is told to a person: what it prints to, and the radio and the card that it is on.
+#[derive(Drop)]
+pub(crate) struct Teller<'t, 'r, 'c> {
+    pub(crate) heap: Global,
+    pub(crate) out: &'t mut String,
+    pub(crate) radio: &'t mut TableRadio<'r>,
+    pub(crate) card: &'t mut PackedCard<'c>,
+    pub(crate) supported: TechnologySet,
 }
 
-/// The rows of the sky now.
-fn rows_now(heap: Global, board: &mut Board) -> Result<Vec<Row>, AllocError> {
-    let mut rows = Vec::new(heap);
-    for place in 0..20 {
-        match board.radio.row(place) {
-            Ok(row) => rows.push(row)?,
-            Err(_) => return Ok(rows),
-        }
+impl Teller<'_, '_, '_> {
+    /// Plays a call, and prints the line that it has for a tool.
+    pub(crate) fn print_call(&mut self, on: On, call: Call) -> Result<On, AllocError> {
+        play_call(self.out, on, self.radio, self.card, &[], call)
     }
-    Ok(rows)
-}
 
-pub(crate) fn describe_sky(
-    heap: Global,
-    out: &mut String,
-    board: &mut Board,
-) -> Result<(), AllocError> {
-    let rows = rows_now(heap, board)?;
-    describe_rows(heap, out, rows.as_slice())
-}
-
-/// What a run's order depends on; none where the card refuses.
-fn preferences_now(board: &mut Board, on: &On) -> Option<Preferences> {
-    match Identity::read(&mut board.card) {
-        Ok(identity) => {
-            let card = Subscriber::read(&mut board.card, &identity);
-            let equivalents = on.equivalents();
-            let supported = board.supported;
-            Some(Preferences {
-                card,
-                equivalents,
-                supported,
-            })
-        }
-        Err(_) => None,
+    /// The files that the card has now, and what they say.
+    pub(crate) fn tell_card(&mut self) -> Result<(), AllocError> {
+        let numbers = file_numbers(self.heap, self.card)?;
+        describe_card(self.out, self.card, numbers.as_slice())?;
+        describe_subscriber(self.out, self.card, self.supported)
     }
-}
 
-/// A run, and the rows that it found with their classes and turns.
-pub(crate) fn describe_run(
-    heap: Global,
-    out: &mut String,
-    board: &mut Board,
-    on: &mut On,
-    draw: u64,
-    room: Option<u8>,
-) -> Result<(), AllocError> {
-    let before = preferences_now(board, on);
-    let done = play_run(heap, out, board, on, draw, room)?;
-    if !done {
-        return Ok(());
+    /// The rows of the sky now.
+    pub(crate) fn tell_sky(&mut self) -> Result<(), AllocError> {
+        let rows = rows_now(self.heap, self.radio)?;
+        describe_rows(self.out, rows.as_slice())
     }
-    match before {
-        Some(preferences) => {
-            let rows = rows_now(heap, board)?;
-            describe_order(heap, out, rows.as_slice(), &preferences, draw)
-        }
-        None => Ok(()),
+
+    /// A run, and the rows that it found with their classes and turns where it was carried out.
+    pub(crate) fn tell_run(
+        &mut self,
+        on: &mut On,
+        draw: u64,
+        room: Option<u8>,
+    ) -> Result<(), AllocError> {
+        let preferences = preferences_now(self.card, on, self.supported);
+        let mut trail = [0; 255];
+        let trail = &mut trail[..usize::from(room.unwrap_or(20))];
+        let ran = on.run(self.radio, self.card, draw, trail);
+        let tries = ran.map_or(0, |answer| answer.tries);
+        write!(self.out, "{}", RunHead { draw, room })?;
+        push_ran(self.out, ran, &trail[..tries.min(trail.len())])?;
+        writeln!(self.out)?;
+        let (Ok(_), Some(preferences)) = (ran, preferences) else {
+            return Ok(());
+        };
+        let rows = rows_now(self.heap, self.radio)?;
+        describe_order(self.out, rows.as_slice(), &preferences, draw)
     }
 }

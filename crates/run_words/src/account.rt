@@ -29,20 +29,13 @@ impl Account<'_> {
 
     /// The try with this index, where there was one.
     pub(crate) fn try_at(&self, index: usize) -> Option<Try> {
-        if index >= self.places.len() || index >= self.heard.len() {
-            return None;
-        }
-        let place = self.places[index];
-        let answer = self.heard[index].answer;
+        let place = *self.places.get(index)?;
+        let answer = self.heard.get(index)?.answer;
         Some(Try { place, answer })
     }
 
     /// What was heard before the try with this index.
     pub(crate) fn heard_before(&self, index: usize) -> &[Heard] {
-        if index <= self.heard.len() {
-            &self.heard[0..index]
-        } else {
-            self.heard
-        }
+        &self.heard[..index.min(self.heard.len())]
     }
 }

@@ -11,38 +11,16 @@ use statements::{Call, Reason, SkyRow, Statement};
 use std::alloc::Global;
 use words::{Run, front, hex_pair, is_white};
 
-/// One more element at the end.
-fn append<T: Drop>(items: &mut Vec<T>, item: T) -> Result<(), Reason>
-    ensures after { MatchResult result (λ _. items.new.items ≡ items.old.items ++ item ∷ []) (λ e. e ≡ NoMemory) }
-    ensures grown { OnOk result (vec_len items.old ≤ vec_len items.new) }
-{
-    match items.push(item) {
-        Ok(()) => Ok(()),
-        Err(_) => Err(Reason::NoMemory),
-    }
-}
-
 /// One more byte of text behind `waiting`, the first digit of a pair whose second is still to come.
 fn append_digit(image: &mut Vec<u8>, waiting: Option<u8>, byte: u8) -> Result<Option<u8>, Reason>
     ensures after { MatchResult result (λ w. paired image.old.items waiting byte ≡ Ok (record { bytes = image.new.items; waiting = w })) (λ e. memory_failed e ≡ false → paired image.old.items waiting byte ≡ Err e) }
     ensures grown { OnOk result (vec_len image.old ≤ vec_len image.new) }
 {
-    match waiting {
-        None => {
-            if is_white(byte) {
-                Ok(None)
-            } else {
-                Ok(Some(byte))
-            }
-        }
-        Some(high) => match hex_pair(high, byte) {
-            None => Err(Reason::NotAByte),
-            Some(value) => {
-                append(image, value)?;
-                Ok(None)
-            }
-        },
-    }
+    let Some(high) = waiting else {
+        return Ok(if is_white(byte) { None } else { Some(byte) });
+    };
+    image.push(hex_pair(high, byte).ok_or(Reason::NotAByte)?)?;
+    Ok(None)
 }
 
 /// The bytes that a text of pairs writes, behind those of the image.
@@ -54,10 +32,10 @@ fn append_pairs(image: &mut Vec<u8>, text: &[u8]) -> Result<(), Reason>
     for byte in text {
         waiting = append_digit(image, waiting, *byte)?;
     }
-    match waiting {
-        None => Ok(()),
-        Some(_) => Err(Reason::NotAByte),
+    if waiting.is_some() {
+        return Err(Reason::NotAByte);
     }
+    Ok(())
 }
 
 /// The bytes that a line writes, behind those of the image.
@@ -69,21 +47,11 @@ fn append_bytes(image: &mut Vec<u8>, line: &[u8]) -> Result<(), Reason>
     append_pairs(image, &line[0..end])
 }
 
-/// How many elements there are.
-fn count<T>(items: &Vec<T>) -> usize
-    ensures { result ≡ length items.now.items }
-{
-    items.as_slice().len()
-}
-
 /// Whether a statement describes the board, and is not a call.
 fn is_of_board(statement: Statement) -> bool
     ensures { result ≡ of_board (meant statement.entry) }
 {
-    match statement {
-        Statement::Nothing | Statement::Call(_) => false,
-        _ => true,
-    }
+    !matches!(statement, Statement::Nothing | Statement::Call(_))
 }
 
 impl Scenario {
@@ -110,15 +78,16 @@ impl Scenario {
     fn add_entry(&mut self, entry: Entry) -> Result<(), Reason>
         ensures { Due (Ok (with_entry (board_of self.old) entry)) result (board_of self.new) }
     {
-        append(&mut self.directory, entry)
+        self.directory.push(entry)?;
+        Ok(())
     }
 
     fn add_file(&mut self, number: u16, line: &[u8]) -> Result<(), Reason>
         ensures { Due (file_in (board_of self.old) number (with_bytes self.old.image.items line.now)) result (board_of self.new) }
     {
-        let start = count(&self.image);
+        let start = self.image.len();
         append_bytes(&mut self.image, line)?;
-        let end = count(&self.image);
+        let end = self.image.len();
         self.add_entry(Entry {
             file: number,
             start,
@@ -129,23 +98,26 @@ impl Scenario {
     fn add_sky(&mut self) -> Result<(), Reason>
         ensures { Due (Ok (with_sky (board_of self.old))) result (board_of self.new) }
     {
-        let before = count(&self.rows);
-        append(&mut self.skies, before)
+        let before = self.rows.len();
+        self.skies.push(before)?;
+        Ok(())
     }
 
     fn add_row(&mut self, row: SkyRow) -> Result<(), Reason>
         ensures { Due (row_in (board_of self.old) row) result (board_of self.new) }
     {
-        if count(&self.skies) == 0 {
+        if self.skies.is_empty() {
             return Err(Reason::RowBeforeSky);
         }
-        append(&mut self.rows, row)
+        self.rows.push(row)?;
+        Ok(())
     }
 
     fn add_call(&mut self, call: Call) -> Result<(), Reason>
         ensures { Due (Ok (with_call (board_of self.old) call)) result (board_of self.new) }
     {
-        append(&mut self.calls, call)
+        self.calls.push(call)?;
+        Ok(())
     }
 
     fn put(&mut self, statement: Statement) -> Result<(), Reason>
@@ -170,7 +142,7 @@ impl Scenario {
     pub fn add(&mut self, statement: Statement) -> Result<(), Reason>
         ensures { Due (extended (board_of self.old) (meant statement.entry)) result (board_of self.new) }
     {
-        if is_of_board(statement) && count(&self.calls) != 0 {
+        if is_of_board(statement) && !self.calls.is_empty() {
             return Err(Reason::BoardAfterCall);
         }
         self.put(statement)

@@ -1,4 +1,6 @@
 ghost use Rattle.std.specs.Prelude.{◌≡◌};
+ghost use Rattle.std.specs.Iterator.{YieldsFirstRef, item_count};
+ghost use Rattle.words.specs.Lines.{lines_of};
 ghost use Rattle.scenario.specs.Boards.{board_of};
 ghost use Rattle.scenario.specs.Outcomes.{Due};
 ghost use Rattle.scenario.specs.Texts.{with_line, read_text, DueText, InText};
@@ -11,9 +13,27 @@ use words::{first_line, without_return};
 fn read_line(scenario: &mut Scenario, line: &[u8]) -> Result<(), Reason>
     ensures { Due (with_line (board_of scenario.old) line.now) result (board_of scenario.new) }
 {
-    match parse(without_return(line)) {
-        Ok(statement) => scenario.add(statement),
-        Err(reason) => Err(reason),
+    scenario.add(parse(without_return(line))?)
+}
+
+/// The lines of a text.
+#[derive(Drop)]
+struct Lines<'a>(&'a [u8]);
+
+impl<'a> Iterator for Lines<'a> {
+    type Item = &'a [u8];
+
+    ghost next_gives = { YieldsFirstRef (λ s. lines_of s.0.now) };
+
+    ghost remaining = { item_count (λ s. lines_of s.0.now) };
+
+    fn next(&mut self) -> Option<&'a [u8]> {
+        if self.0.is_empty() {
+            return None;
+        }
+        let cut = first_line(self.0);
+        self.0 = cut.rest;
+        Some(cut.line)
     }
 }
 
@@ -23,15 +43,11 @@ pub fn read(heap: Global, text: &[u8]) -> Result<Scenario, Fault>
     ensures small { InText text.now result }
 {
     let mut scenario = Scenario::empty(heap);
-    let mut rest = text;
-    let mut line = 0;
-    while rest.len() > 0 {
-        let cut = first_line(rest);
-        line += 1;
-        if let Err(reason) = read_line(&mut scenario, cut.line) {
+    for (line, words) in Lines(text).enumerate() {
+        if let Err(reason) = read_line(&mut scenario, words) {
+            let line = line + 1;
             return Err(Fault { line, reason });
         }
-        rest = cut.rest;
     }
     Ok(scenario)
 }

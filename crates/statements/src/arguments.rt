@@ -14,7 +14,7 @@ pub fn word<'a>(words: &mut Words<'a>) -> Result<&'a [u8], Reason>
     ensures after { words.new.rest.now ≡ past_word words.old.rest.now }
 {
     let found = words.next();
-    if found.len() == 0 {
+    if found.is_empty() {
         Err(Reason::MissingWord)
     } else {
         Ok(found)
@@ -26,11 +26,7 @@ pub fn number16(words: &mut Words) -> Result<u16, Reason>
     ensures value { result ≡ asked NotFourDigits four_value words.old.rest.now }
     ensures after { words.new.rest.now ≡ past_word words.old.rest.now }
 {
-    let found = word(words)?;
-    match four_digits(found) {
-        Some(number) => Ok(number),
-        None => Err(Reason::NotFourDigits),
-    }
+    four_digits(word(words)?).ok_or(Reason::NotFourDigits)
 }
 
 /// A network code.
@@ -38,11 +34,7 @@ pub fn code(words: &mut Words) -> Result<Code, Reason>
     ensures value { result ≡ asked NotSixDigits six_value words.old.rest.now }
     ensures after { words.new.rest.now ≡ past_word words.old.rest.now }
 {
-    let found = word(words)?;
-    match six_digits(found) {
-        Some(code) => Ok(code),
-        None => Err(Reason::NotSixDigits),
-    }
+    six_digits(word(words)?).ok_or(Reason::NotSixDigits)
 }
 
 /// A decimal number of at most `most`.
@@ -51,11 +43,7 @@ pub fn up_to(words: &mut Words, most: u64) -> Result<u64, Reason>
     ensures small { IfOk result (λ n. n ≤ most) }
     ensures after { words.new.rest.now ≡ past_word words.old.rest.now }
 {
-    let found = word(words)?;
-    match decimal(found, most) {
-        Some(number) => Ok(number),
-        None => Err(Reason::NotUpTo(most)),
-    }
+    decimal(word(words)?, most).ok_or(Reason::NotUpTo(most))
 }
 
 /// A level in dBm.
@@ -63,11 +51,7 @@ pub fn level(words: &mut Words) -> Result<i16, Reason>
     ensures value { result ≡ asked NotALevel level_value words.old.rest.now }
     ensures after { words.new.rest.now ≡ past_word words.old.rest.now }
 {
-    let found = word(words)?;
-    match signed_level(found) {
-        Some(level) => Ok(level),
-        None => Err(Reason::NotALevel),
-    }
+    signed_level(word(words)?).ok_or(Reason::NotALevel)
 }
 
 /// No further word.

@@ -1,7 +1,12 @@
+ghost use Rattle.std.specs.Prelude.{◌≡◌};
+ghost use Rattle.statements.specs.declared.fault.Reason.TheVariants.{NoMemory};
+
+use std::alloc::AllocFailed;
+use std::error::Error;
 use std::fmt;
 
 /// Why a line cannot be read.
-#[derive(Clone, Copy, PartialEq, Eq)]
+#[derive(Clone, Copy, Debug, PartialEq, Eq)]
 pub enum Reason {
     UnknownWord,
     MissingWord,
@@ -20,7 +25,7 @@ pub enum Reason {
 }
 
 /// The first line of a text that cannot be read, counted from 1, and why.
-#[derive(Clone, Copy, PartialEq, Eq)]
+#[derive(Clone, Copy, Debug, PartialEq, Eq)]
 pub struct Fault {
     pub line: usize,
     pub reason: Reason,
@@ -46,6 +51,16 @@ impl fmt::Display for Reason {
     }
 }
 
+impl Error for Reason {}
+
+impl<T: Drop> From<AllocFailed<T>> for Reason {
+    ghost from_gives = { λ _ e. e ≡ NoMemory };
+
+    fn from(_e: AllocFailed<T>) -> Reason {
+        Reason::NoMemory
+    }
+}
+
 impl fmt::Display for Fault {
     fn fmt<W: fmt::Write>(&self, f: &mut fmt::Formatter<W>) -> fmt::Result {
         let line = self.line;
@@ -53,3 +68,5 @@ impl fmt::Display for Fault {
         write!(f, "line {line}: {reason}")
     }
 }
+
+impl Error for Fault {}

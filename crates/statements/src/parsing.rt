@@ -117,10 +117,8 @@ fn read_codes(words: Words) -> Result<Codes, Reason>
         if words.is_bare() {
             return Ok(codes);
         }
-        match code(&mut words) {
-            Ok(code) => codes = with_code(codes, code),
-            Err(reason) => return Err(reason),
-        }
+        let next = code(&mut words)?;
+        codes = with_code(codes, next);
     }
     if words.is_bare() {
         Ok(codes)
@@ -141,10 +139,7 @@ fn read_cause(words: Words) -> Result<Answer, Reason>
 fn read_accept(words: Words) -> Result<Answer, Reason>
     ensures { result ≡ accept_by (codes_from 5 (Ok no_codes) words.entry.rest.now) }
 {
-    match read_codes(words) {
-        Ok(codes) => Ok(Answer::Accept(codes)),
-        Err(reason) => Err(reason),
-    }
+    Ok(Answer::Accept(read_codes(words)?))
 }
 
 fn read_silent(words: Words) -> Result<Answer, Reason>
@@ -209,10 +204,8 @@ fn parse_row<'a>(words: Words<'a>) -> Result<Statement<'a>, Reason>
 {
     let mut words = words;
     let row = read_row(&mut words)?;
-    match read_answer(words) {
-        Ok(answer) => Ok(Statement::Row(SkyRow { row, answer })),
-        Err(reason) => Err(reason),
-    }
+    let answer = read_answer(words)?;
+    Ok(Statement::Row(SkyRow { row, answer }))
 }
 
 fn parse_pick<'a>(words: Words<'a>) -> Result<Statement<'a>, Reason>
@@ -242,10 +235,8 @@ fn parse_run<'a>(words: Words<'a>) -> Result<Statement<'a>, Reason>
 {
     let mut words = words;
     let draw = up_to(&mut words, u64::MAX)?;
-    match read_room(words) {
-        Ok(room) => Ok(Statement::Call(Call::Run(draw, room))),
-        Err(reason) => Err(reason),
-    }
+    let room = read_room(words)?;
+    Ok(Statement::Call(Call::Run(draw, room)))
 }
 
 fn parse_bare<'a>(call: Call, words: Words<'a>) -> Result<Statement<'a>, Reason>
@@ -292,11 +283,11 @@ pub fn parse<'a>(line: &'a [u8]) -> Result<Statement<'a>, Reason>
 {
     let mut words = Words::of(line);
     let first = words.next();
-    if first.len() == 0 {
+    if first.is_empty() {
         return Ok(Statement::Nothing);
     }
-    match keyword(first) {
-        None => Err(Reason::UnknownWord),
-        Some(word) => parse_rest(word, words),
-    }
+    let Some(word) = keyword(first) else {
+        return Err(Reason::UnknownWord);
+    };
+    parse_rest(word, words)
 }

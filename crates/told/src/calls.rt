@@ -1,123 +1,94 @@
-use super::runs::tell_run;
-use super::sky::{Sky, heard_at};
+use super::teller::Teller;
 use board::{Board, file_numbers};
 use card_words::{describe_card, describe_subscriber};
 use phrases::{AnswerWords, RefusalWords, RowWords, StateWords};
-use plmn::Row;
-use radio::Registrar;
 use refusal::Refusal;
 use selector::On;
 use statements::Call;
 use states::Mode;
 use std::alloc::{AllocError, Global};
-use table_radio::TableRadio;
-
-fn tell_refusal(out: &mut String, refusal: Refusal) -> Result<(), AllocError> {
-    let words = RefusalWords(refusal);
-    writeln!(out, "{words}")
-}
 
 /// The one line of a scenario whose settings are refused.
 pub fn tell_settings(out: &mut String) -> Result<(), AllocError> {
-    write!(out, "settings: ")?;
-    tell_refusal(out, Refusal::Technologies)
+    writeln!(out, "settings: {}", RefusalWords(Refusal::Technologies))
 }
 
-/// The files that a card has now, and what they say.
-fn tell_card(heap: Global, out: &mut String, board: &mut Board) -> Result<(), AllocError> {
-    let numbers = file_numbers(heap, &board.card)?;
-    let files = numbers.as_slice();
-    let count = files.len();
-    writeln!(out, "card: {count} files")?;
-    describe_card(out, &mut board.card, files)?;
-    describe_subscriber(out, &mut board.card, board.supported)
-}
-
-/// The rows of the sky now.
-fn tell_sky(out: &mut String, board: &mut Board) -> Result<(), AllocError> {
-    let sky = Sky::now(board);
-    for (place, row) in sky.rows().iter().enumerate() {
-        let found = RowWords { place, row: *row };
-        writeln!(out, "  {found}")?;
+impl Teller<'_, '_, '_> {
+    /// The files that the card has now, and what they say.
+    fn tell_card(&mut self) -> Result<(), AllocError> {
+        let numbers = file_numbers(self.heap, self.card)?;
+        let files = numbers.as_slice();
+        writeln!(self.out, "card: {} files", files.len())?;
+        describe_card(self.out, self.card, files)?;
+        describe_subscriber(self.out, self.card, self.supported)
     }
-    Ok(())
-}
 
-fn tell_look(out: &mut String, board: &mut Board, on: &On) -> Result<(), AllocError> {
-    write!(out, "look: ")?;
-    match on.look(&mut board.radio) {
-        Ok(count) => {
-            let rows = if count == 1 { "row" } else { "rows" };
-            writeln!(out, "{count} {rows} heard")?;
-            tell_sky(out, board)
-        }
-        Err(refusal) => tell_refusal(out, refusal),
-    }
-}
-
-/// The row that was picked, and what its network answered.
-fn tell_try(out: &mut String, board: &mut Board, on: &On, place: usize) -> Result<(), AllocError> {
-    let heard = heard_at(board, place);
-    let found = RowWords {
-        place,
-        row: heard.row,
-    };
-    let equivalents = on.equivalents();
-    let answer = AnswerWords {
-        answer: heard.answer,
-        equivalents: equivalents.codes(),
-    };
-    writeln!(out, "  {found}\n    tried: {answer}")
-}
-
-fn tell_pick(
-    out: &mut String,
-    board: &mut Board,
-    on: &mut On,
-    place: u64,
-) -> Result<(), AllocError> {
-    write!(out, "pick {place}: ")?;
-    match on.pick(&mut board.radio, &mut board.card, place as usize) {
-        Ok(state) => {
-            let words = StateWords(state);
-            writeln!(out, "{words}")?;
-            tell_try(out, board, on, place as usize)
-        }
-        Err(refusal) => tell_refusal(out, refusal),
-    }
-}
-
-fn tell_mode(out: &mut String, on: &mut On) -> Result<(), AllocError> {
-    match on.change_mode() {
-        Mode::Automatic => writeln!(out, "mode: was automatic, is manual now"),
-        Mode::Manual => writeln!(out, "mode: was manual, is automatic now"),
-    }
-}
-
-/// The rows that were tried, of those of the sky now.
-fn tell_tried(out: &mut String, radio: &TableRadio, rows: &[Row]) -> Result<(), AllocError> {
-    let mut none = true;
-    for (place, row) in rows.iter().enumerate() {
-        if let Some(true) = radio.is_tried(place) {
-            let found = RowWords { place, row: *row };
-            write!(out, "\n  {found}")?;
-            none = false;
+    fn tell_look(&mut self) -> Result<(), AllocError> {
+        write!(self.out, "look: ")?;
+        match self.on.look(self.radio) {
+            Ok(count) => {
+                let words = if count == 1 { "row" } else { "rows" };
+                writeln!(self.out, "{count} {words} heard")?;
+                for (place, row) in self.rows()?.iter().enumerate() {
+                    writeln!(self.out, "  {}", RowWords { place, row: *row })?;
+                }
+                Ok(())
+            }
+            Err(refusal) => self.tell_refusal(refusal),
         }
     }
-    if none {
-        write!(out, " none")?;
+
+    /// The row that was picked, and what its network answered.
+    fn tell_try(&mut self, place: usize) -> Result<(), AllocError> {
+        let heard = self.heard_at(place);
+        let found = RowWords {
+            place,
+            row: heard.row,
+        };
+        let equivalents = self.on.equivalents();
+        let answer = AnswerWords {
+            answer: heard.answer,
+            equivalents: equivalents.codes(),
+        };
+        writeln!(self.out, "  {found}\n    tried: {answer}")
     }
-    writeln!(out)
-}
 
-fn tell_tried_on(out: &mut String, board: &Board, sky: &Sky) -> Result<(), AllocError> {
-    tell_tried(out, &board.radio, sky.rows())
-}
+    fn tell_pick(&mut self, place: usize) -> Result<(), AllocError> {
+        write!(self.out, "pick {place}: ")?;
+        let picked = self.on.pick(self.radio, self.card, place);
+        match picked {
+            Ok(state) => {
+                writeln!(self.out, "{}", StateWords(state))?;
+                self.tell_try(place)
+            }
+            Err(refusal) => self.tell_refusal(refusal),
+        }
+    }
 
-fn tell_marks(out: &mut String, board: &mut Board) -> Result<(), AllocError> {
-    let sky = Sky::now(board);
-    write!(out, "marks:")?;
-    tell_tried_on(out, board, &sky)
+    fn tell_mode(&mut self) -> Result<(), AllocError> {
+        match self.on.change_mode() {
+            Mode::Automatic => writeln!(self.out, "mode: was automatic, is manual now"),
+            Mode::Manual => writeln!(self.out, "mode: was manual, is automatic now"),
+        }
+    }
+
+    /// The rows of the sky now that were tried.
+    fn tell_marks(&mut self) -> Result<(), AllocError> {
+        let mut tried = Vec::new(self.heap);
+        for (place, row) in self.rows()?.iter().enumerate() {
+            if self.radio.is_tried(place).unwrap_or(false) {
+                tried.push(RowWords { place, row: *row })?;
+            }
+        }
+        write!(self.out, "marks:")?;
+        if tried.is_empty() {
+            write!(self.out, " none")?;
+        }
+        for found in tried.as_slice() {
+            write!(self.out, "\n  {found}")?;
+        }
+        writeln!(self.out)
+    }
 }
 
 /// Carries out a call, and tells its answer. A restart is carried out by the caller, since it uses the selector up.
@@ -128,13 +99,21 @@ pub fn tell_call(
     on: &mut On,
     call: Call,
 ) -> Result<(), AllocError> {
+    let mut teller = Teller {
+        heap,
+        out,
+        radio: &mut board.radio,
+        card: &mut board.card,
+        supported: board.supported,
+        on,
+    };
     match call {
-        Call::Card => tell_card(heap, out, board),
-        Call::Marks => tell_marks(out, board),
-        Call::Run(draw, room) => tell_run(out, board, on, draw, room),
-        Call::Look => tell_look(out, board, on),
-        Call::Pick(place) => tell_pick(out, board, on, place),
-        Call::Mode => tell_mode(out, on),
-        Call::Restart => writeln!(out, "restart: switched off and on"),
+        Call::Card => teller.tell_card(),
+        Call::Marks => teller.tell_marks(),
+        Call::Run(draw, room) => teller.tell_run(draw, room),
+        Call::Look => teller.tell_look(),
+        Call::Pick(place) => teller.tell_pick(place as usize),
+        Call::Mode => teller.tell_mode(),
+        Call::Restart => writeln!(teller.out, "restart: switched off and on"),
     }
 }

@@ -4,6 +4,6 @@
 
 mod calls;
 mod runs;
-mod sky;
+mod teller;
 
 pub use calls::{tell_call, tell_settings};

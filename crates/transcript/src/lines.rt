@@ -3,22 +3,17 @@ ghost use Rattle.transcript.specs.Lines.{call_name, call_number, call_text, repl
 
 use agreement::{Call, Reply};
 use replies::{push_looked, push_mode, push_picked, push_ran, push_spaced, push_state};
-use std::alloc::{AllocError, Global};
+use std::alloc::AllocError;
 
 /// What a call answered; a run also the places that it tried.
-pub fn push_reply(
-    heap: Global,
-    out: &mut String,
-    reply: Reply,
-    places: &[u8],
-) -> Result<(), AllocError>
+pub fn push_reply(out: &mut String, reply: Reply, places: &[u8]) -> Result<(), AllocError>
     ensures { OnOk result (string_bytes out.new ≡ string_bytes out.old ++ reply_text reply places.now) }
 {
     match reply {
-        Reply::Ran(outcome) => push_ran(heap, out, outcome, places),
-        Reply::Looked(outcome) => push_looked(heap, out, outcome),
-        Reply::Picked(outcome) => push_picked(heap, out, outcome),
-        Reply::Lost(state) => push_state(heap, out, state),
+        Reply::Ran(outcome) => push_ran(out, outcome, places),
+        Reply::Looked(outcome) => push_looked(out, outcome),
+        Reply::Picked(outcome) => push_picked(out, outcome),
+        Reply::Lost(state) => push_state(out, state),
         Reply::Changed(mode) => push_mode(out, mode),
         Reply::Restarted => out.push_str("on"),
     }
@@ -38,28 +33,26 @@ fn call_name(call: Call) -> &'static str
     }
 }
 
-fn push_number(heap: Global, out: &mut String, call: Call) -> Result<(), AllocError>
+fn push_number(out: &mut String, call: Call) -> Result<(), AllocError>
     ensures { OnOk result (string_bytes out.new ≡ string_bytes out.old ++ call_number call) }
 {
     match call {
-        Call::Run(draw) => push_spaced(heap, out, draw),
-        Call::Pick(place) => push_spaced(heap, out, place as u64),
+        Call::Run(draw) => push_spaced(out, draw),
+        Call::Pick(place) => push_spaced(out, place as u64),
         _ => Ok(()),
     }
 }
 
 /// The words of a call.
-fn push_call(heap: Global, out: &mut String, call: Call) -> Result<(), AllocError>
+fn push_call(out: &mut String, call: Call) -> Result<(), AllocError>
     ensures { OnOk result (string_bytes out.new ≡ string_bytes out.old ++ call_text call) }
 {
     out.push_str(call_name(call))?;
-    push_number(heap, out, call)?;
-    Ok(())
+    push_number(out, call)
 }
 
 /// The line of a call: its words, a colon, and its answer.
 pub(crate) fn push_line(
-    heap: Global,
     out: &mut String,
     call: Call,
     reply: Reply,
@@ -67,9 +60,8 @@ pub(crate) fn push_line(
 ) -> Result<(), AllocError>
     ensures { OnOk result (string_bytes out.new ≡ string_bytes out.old ++ line_text call reply places.now) }
 {
-    push_call(heap, out, call)?;
+    push_call(out, call)?;
     out.push_str(": ")?;
-    push_reply(heap, out, reply, places)?;
-    out.push_str("\n")?;
-    Ok(())
+    push_reply(out, reply, places)?;
+    out.push_str("\n")
 }

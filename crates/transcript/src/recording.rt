@@ -1,4 +1,4 @@
-ghost use Rattle.std.specs.Prelude.{◌≡◌, false, [], string_bytes};
+ghost use Rattle.std.specs.Prelude.{◌≡◌, Ok, [], string_bytes};
 ghost use Rattle.std.specs.List.{flat_map};
 ghost use Rattle.transcript.specs.Lines.{seen_text};
 
@@ -7,33 +7,31 @@ use agreement::{Call, Recorder, Reply};
 use card::Card;
 use radio::Registrar;
 use selector::On;
-use std::alloc::Global;
+use std::alloc::{AllocError, Global};
 
-/// The lines of the calls so far. Where memory ran out it is broken off, and says so.
+/// The lines of the calls so far, and whether memory sufficed for them: where it ran out they are broken off.
 #[derive(Drop)]
 pub struct Transcript {
-    pub heap: Global,
     pub text: String,
-    pub broken_off: bool,
+    pub outcome: Result<(), AllocError>,
 }
 
 impl Transcript {
     /// No line yet.
     pub fn new(heap: Global) -> Transcript
         ensures text { string_bytes result.text ≡ [] }
-        ensures whole { result.broken_off ≡ false }
+        ensures whole { result.outcome ≡ Ok tt }
     {
         Transcript {
-            heap,
             text: String::new(heap),
-            broken_off: false,
+            outcome: Ok(()),
         }
     }
 }
 
 impl Recorder for Transcript {
     // Unless it is broken off, its text is the lines of what it was told of.
-    ghost heard = { λ t l. t.broken_off ≡ false → string_bytes t.text ≡ flat_map seen_text l };
+    ghost heard = { λ t l. t.outcome ≡ Ok tt → string_bytes t.text ≡ flat_map seen_text l };
 
     fn told<R: Registrar, C: Card>(
         &mut self,
@@ -44,9 +42,8 @@ impl Recorder for Transcript {
         radio: &mut R,
         card: &mut C,
     ) {
-        match push_line(self.heap, &mut self.text, call, reply, trail) {
-            Ok(()) => {}
-            Err(_) => self.broken_off = true,
+        if let Err(error) = push_line(&mut self.text, call, reply, trail) {
+            self.outcome = Err(error);
         }
     }
 }

@@ -33,7 +33,7 @@ pub fn four_digits(word: &[u8]) -> Option<u16>
     }
     let high = hex_pair(word[0], word[1])?;
     let low = hex_pair(word[2], word[3])?;
-    Some(high as u16 * 256 + low as u16)
+    Some(u16::from_be_bytes([high, low]))
 }
 
 /// The network code that a word of exactly six hexadecimal digits writes.
@@ -54,7 +54,7 @@ fn with_digit(so_far: u64, digit: u8, most: u64) -> Option<u64>
     ensures value { result ≡ digit_more most so_far digit }
     ensures small { IfSome result (λ n. n ≤ most) }
 {
-    if digit < b'0' || digit > b'9' {
+    if !digit.is_ascii_digit() {
         return None;
     }
     let next = so_far as u128 * 10 + (digit - b'0') as u128;
@@ -70,7 +70,7 @@ pub fn decimal(word: &[u8], most: u64) -> Option<u64>
     ensures value { result ≡ number_up_to most word.now }
     ensures small { IfSome result (λ n. n ≤ most) }
 {
-    if word.len() == 0 {
+    if word.is_empty() {
         return None;
     }
     let mut so_far = 0;
@@ -91,28 +91,21 @@ fn minus(number: u64) -> i16
 fn level_below(digits: &[u8]) -> Option<i16>
     ensures { result ≡ below (number_up_to 32768 digits.now) }
 {
-    match decimal(digits, 32768) {
-        Some(number) => Some(minus(number)),
-        None => None,
-    }
+    decimal(digits, 32768).map(|number| minus(number))
 }
 
 fn level_above(digits: &[u8]) -> Option<i16>
     ensures { result ≡ above (number_up_to 32767 digits.now) }
 {
-    match decimal(digits, 32767) {
-        Some(number) => Some(number as i16),
-        None => None,
-    }
+    decimal(digits, 32767).map(|number| number as i16)
 }
 
 /// The level in dBm that a word writes: a decimal number from -32768 to 32767.
 pub fn signed_level(word: &[u8]) -> Option<i16>
     ensures { result ≡ level_value word.now }
 {
-    if word.len() > 0 && word[0] == b'-' {
-        level_below(&word[1..])
-    } else {
-        level_above(word)
+    match word {
+        [b'-', digits @ ..] => level_below(digits),
+        _ => level_above(word),
     }
 }

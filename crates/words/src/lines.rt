@@ -15,10 +15,9 @@ fn past_line(text: &[u8], length: usize) -> &[u8]
     requires { length ≤ size text.now }
     ensures { result.now ≡ drop (length + 1) text.now }
 {
-    if length < text.len() {
-        &text[length + 1..]
-    } else {
-        &text[length..]
+    match &text[length..] {
+        [_, rest @ ..] => rest,
+        [] => &[],
     }
 }
 
@@ -38,10 +37,8 @@ pub fn first_line(text: &[u8]) -> FirstLine<'_>
 pub fn without_return(line: &[u8]) -> &[u8]
     ensures { result.now ≡ unreturned line.now }
 {
-    let length = line.len();
-    if length > 0 && line[length - 1] == b'\r' {
-        &line[0..length - 1]
-    } else {
-        line
+    match line {
+        [front @ .., b'\r'] => front,
+        _ => line,
     }
 }

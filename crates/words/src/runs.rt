@@ -2,7 +2,8 @@ ghost use Rattle.std.specs.Prelude.{◌≡◌, ◌≤◌, length};
 ghost use Rattle.std.specs.List.{prefix_len};
 ghost use Rattle.words.specs.Words.{white, of_run};
 
-/// What the longest run at the front of a text is made of.
+/// What the longest run at the front of a text is made of. The four are a closed set that the language's definitions name; a closure
+/// in place of the enum would have to be tied to one of them at each call.
 #[derive(Clone, Copy)]
 pub enum Run {
     /// Spaces and tabs.
@@ -38,10 +39,5 @@ pub fn front(text: &[u8], run: Run) -> usize
     ensures value { result ≡ prefix_len (of_run run) text.now }
     ensures small { result ≤ length text.now }
 {
-    for (i, byte) in text.iter().enumerate() {
-        if !belongs(run, *byte) {
-            return i;
-        }
-    }
-    text.len()
+    text.iter().take_while(|byte| belongs(run, **byte)).count()
 }

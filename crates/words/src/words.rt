@@ -49,6 +49,6 @@ impl<'a> Words<'a> {
         ensures { result ≡ bare self.entry.rest.now }
     {
         let mut words = self;
-        words.next().len() == 0
+        words.next().is_empty()
     }
 }
