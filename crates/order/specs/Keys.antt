@@ -9,10 +9,10 @@ use Rattle.plmn.specs.declared.technology.Technology.TheVariants.{Gsm, Utran, Eu
 use Rattle.ranking.specs.Lists.{at_place}
 use Rattle.ranking.specs.Orders.{ordered_keys}
 use Rattle.ranking.specs.declared.key.Key.{Key}
-use Rattle.row_classes.specs.Classes.{class_of, home_served}
+use Rattle.row_classes.specs.Classes.{class_number, class_position, class_of, home_served}
 use Rattle.row_classes.specs.Facts.{Facts, allowed}
-use Rattle.ranking.specs.declared.class.Class.{Class}
-use Rattle.ranking.specs.declared.class.Class.TheVariants.{HighQuality}
+use Rattle.row_classes.specs.declared.class.Class.{Class}
+use Rattle.row_classes.specs.declared.class.Class.TheVariants.{HighQuality}
 
 -- E-UTRAN precedes UTRAN, which precedes GSM
 abbrev pub technology_rank : Option Technology → ℕ
@@ -32,7 +32,7 @@ level_in _ r = r.level
 
 -- the key of an allowed row, without its place
 abbrev pub key_in : Class → Row → Key
-key_in class r = record { class = class; rank = rank_in class r; level = record { 0 = level_in class r }; place = 0 }
+key_in class r = record { class = class_number class; position = class_position class; rank = rank_in class r; level = record { 0 = level_in class r }; place = 0 }
 
 -- a row that is not allowed has none
 abbrev pub key_of : Facts → Option Code → Row → Option Key

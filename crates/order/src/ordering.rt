@@ -2,6 +2,7 @@ ghost use Rattle.std.specs.Prelude.{◌≡◌, ◌≤◌, length};
 ghost use Rattle.ranking.specs.Lists.{keys_in, order_in};
 ghost use Rattle.ranking.specs.Orders.{Ordered};
 ghost use Rattle.order.specs.Keys.{technology_rank, key_in, key_of, keys_from, found, keys_of, order_of};
+ghost use Rattle.row_classes.specs.Classes.{class_number, class_position};
 ghost use Rattle.row_classes.specs.Preferred.{facts_of};
 ghost use Rattle.plmn.specs.Technologies.{with_number};
 
@@ -23,6 +24,31 @@ fn technology_rank(number: u8) -> u8
     }
 }
 
+/// The number of a class. Classes take their turns in the order of their numbers.
+fn class_number(class: Class) -> u8
+    ensures { result ≡ class_number class }
+{
+    match class {
+        Class::Registered => 1,
+        Class::Equivalent(_) => 2,
+        Class::Home => 3,
+        Class::User(_) => 4,
+        Class::Operator(_) => 5,
+        Class::HighQuality => 6,
+        Class::Rest => 7,
+    }
+}
+
+/// The position of a row in the list that its class goes by; 0 where it goes by none.
+fn class_position(class: Class) -> usize
+    ensures { result ≡ class_position class }
+{
+    match class {
+        Class::Equivalent(p) | Class::User(p) | Class::Operator(p) => p,
+        Class::Registered | Class::Home | Class::HighQuality | Class::Rest => 0,
+    }
+}
+
 /// The key of an allowed row, without its place. Rows of high quality differ by their places alone, since the draw takes them.
 fn key_in(class: Class, row: Row) -> Key
     ensures { result ≡ key_in class row }
@@ -32,7 +58,8 @@ fn key_in(class: Class, row: Row) -> Key
         _ => (technology_rank(row.technology), row.level),
     };
     Key {
-        class,
+        class: class_number(class),
+        position: class_position(class),
         rank,
         level: Reverse(level),
         place: 0,

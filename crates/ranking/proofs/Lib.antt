@@ -1,7 +1,6 @@
 pub mod Apart
 pub mod Arranged
 pub mod Blocks
-pub mod Derived
 pub mod Drawing
 pub mod Lawful
 pub mod Numbers

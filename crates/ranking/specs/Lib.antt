@@ -1,4 +1,3 @@
-pub mod Classes
 pub mod Draws
 pub mod Lists
 pub mod Orders

@@ -2,14 +2,12 @@
 
 #![tactic(auto)]
 
-mod class;
 mod draw;
 mod key;
 mod keys;
 mod ordering;
 mod sorting;
 
-pub use class::Class;
 pub use key::Key;
 pub use keys::{Keys, RowOrder};
 pub use ordering::order_is_one;

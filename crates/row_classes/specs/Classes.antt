@@ -10,9 +10,27 @@ use Rattle.plmn.specs.declared.technology.Technology.TheVariants.{Gsm, Utran, Eu
 use Rattle.entry_list.specs.Entries.{first_match}
 use Rattle.entry_list.specs.declared.listed.Listed.{Listed}
 use Rattle.row_classes.specs.Facts.{Facts, some_allowed}
-pub use Rattle.ranking.specs.Classes.{class_number, class_position}
-use Rattle.ranking.specs.declared.class.Class.{Class}
-use Rattle.ranking.specs.declared.class.Class.TheVariants.{Registered, Equivalent, Home, User, Operator, HighQuality, Rest}
+use Rattle.row_classes.specs.declared.class.Class.{Class}
+use Rattle.row_classes.specs.declared.class.Class.TheVariants.{Registered, Equivalent, Home, User, Operator, HighQuality, Rest}
+
+-- the number of each class, and its position where it goes by a list
+abbrev pub class_number : Class → ℕ
+class_number Registered = 1
+class_number (Equivalent p) = 2
+class_number Home = 3
+class_number (User p) = 4
+class_number (Operator p) = 5
+class_number HighQuality = 6
+class_number Rest = 7
+
+abbrev pub class_position : Class → ℕ
+class_position Registered = 0
+class_position (Equivalent p) = p
+class_position Home = 0
+class_position (User p) = p
+class_position (Operator p) = p
+class_position HighQuality = 0
+class_position Rest = 0
 
 -- the least level of high quality, in dBm: -110 in E-UTRAN, -95 in UTRAN, -85 in GSM
 abbrev pub high_from : Technology → ℤ

@@ -5,10 +5,10 @@ ghost use Rattle.row_classes.specs.Classes.{high_from, high_quality as isHighQua
 ghost use Rattle.row_classes.specs.Preferred.{facts_of};
 
 use super::allowed::some_allowed;
+use super::class::Class;
 use super::facts::Preferences;
 use entry_list::EntryList;
 use plmn::{Code, Row, Technology, TechnologySet};
-use ranking::Class;
 
 /// The least level of high quality, in dBm.
 fn high_from(technology: Technology) -> i16

@@ -3,10 +3,11 @@
 #![tactic(auto)]
 
 mod allowed;
+mod class;
 mod classify;
 mod facts;
 
 pub use allowed::is_allowed;
+pub use class::Class;
 pub use classify::{class_of, served_home};
 pub use facts::Preferences;
-pub use ranking::Class;
