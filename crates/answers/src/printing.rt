@@ -8,11 +8,34 @@ use plmn::Code;
 use refusal::{FileFault, Refusal};
 use std::alloc::AllocError;
 
+/// The capital digit of a value.
+fn hex_digit(value: u8) -> u8
+    requires { value < 16 }
+    ensures value { result ≡ hex_digit value }
+    ensures small { result < 128 }
+{
+    if value < 10 {
+        b'0' + value
+    } else {
+        b'A' + (value - 10)
+    }
+}
+
+// No `write!`: what it costs to set up, for each byte, makes a printed card twice as dear.
+fn push_digit(out: &mut String, value: u8) -> Result<(), AllocError>
+    requires { value < 16 }
+    ensures { OnOk result (string_bytes out.new ≡ string_bytes out.old ++ hex_digit value ∷ []) }
+{
+    out.push(hex_digit(value) as char)?;
+    Ok(())
+}
+
 /// Two capital digits.
 pub fn push_byte(out: &mut String, byte: u8) -> Result<(), AllocError>
     ensures { OnOk result (string_bytes out.new ≡ string_bytes out.old ++ byte_text byte) }
 {
-    write!(out, "{byte:02X}")
+    push_digit(out, byte / 16)?;
+    push_digit(out, byte % 16)
 }
 
 /// Four capital digits.

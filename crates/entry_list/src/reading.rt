@@ -16,11 +16,12 @@ fn read_bytes<K: EntryKind>(bytes: &[u8]) -> EntryList
     requires { length bytes.now ≤ 240 }
     ensures { list_of result ≡ entriesOf K.EntryKind.LENGTH K.EntryKind.meaning bytes.now }
 {
-    let hole = Listed {
-        code: Code::EMPTY,
-        technologies: TechnologySet::EVERY,
+    // All zero, which is the cheapest to fill the places with.
+    let unused = Listed {
+        code: Code::new(0, 0, 0),
+        technologies: TechnologySet { bits: 0 },
     };
-    let mut held = Bounded::new(hole);
+    let mut held = Bounded::new(unused);
     for entry in bytes.chunks_exact(K::LENGTH) {
         held.push(K::read(entry));
     }
