@@ -12,4 +12,4 @@ pub use both::play_on_both;
 pub use call::{Call, Reply};
 pub use playing::play_calls;
 pub use recorder::{Recorder, Unheeding};
-pub use serving::{Served, serve};
+pub use serving::{Served, make_call, serve};

@@ -6,5 +6,5 @@ mod calls;
 mod lines;
 mod marks;
 
-pub use calls::{play_call, play_calls};
+pub use calls::{carry_out, play_call, play_calls};
 pub use marks::Marked;

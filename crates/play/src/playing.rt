@@ -16,15 +16,14 @@ pub enum Style {
     Words,
 }
 
-/// Plays a call for a person, and gives back the selector, which a restart uses up.
+/// Plays a call for a person.
 fn tell_call(
     heap: Global,
     out: &mut String,
     board: &mut Board,
-    on: On,
+    on: &mut On,
     call: Call,
-) -> Result<On, AllocError> {
-    let mut on = on;
+) -> Result<(), AllocError> {
     let mut teller = Teller {
         heap,
         out,
@@ -33,17 +32,14 @@ fn tell_call(
         supported: board.supported,
     };
     match call {
-        Call::Card => teller.tell_card()?,
-        Call::Run(draw, room) => teller.tell_run(&mut on, draw, room)?,
+        Call::Card => teller.tell_card(),
+        Call::Run(draw, room) => teller.tell_run(on, draw, room),
         Call::Look => {
-            on = teller.print_call(on, call)?;
-            teller.tell_sky()?;
+            teller.print_call(on, call)?;
+            teller.tell_sky()
         }
-        Call::Marks | Call::Pick(_) | Call::Mode | Call::Restart => {
-            on = teller.print_call(on, call)?;
-        }
+        Call::Marks | Call::Pick(_) | Call::Mode | Call::Restart => teller.print_call(on, call),
     }
-    Ok(on)
 }
 
 /// The answers of calls on a new selector, for a person.
@@ -56,7 +52,7 @@ fn tell_calls(
 ) -> Result<(), AllocError> {
     let mut on = Off::new(settings).switch_on();
     for call in calls {
-        on = tell_call(heap, out, board, on, *call)?;
+        tell_call(heap, out, board, &mut on, *call)?;
     }
     Ok(())
 }

@@ -5,7 +5,7 @@ use card_words::describe_subscriber;
 use packed_card::PackedCard;
 use person::{describe_order, describe_rows};
 use phrases::RunHead;
-use plain::play_call;
+use plain::carry_out;
 use plmn::TechnologySet;
 use replies::push_ran;
 use selector::On;
@@ -25,8 +25,8 @@ pub(crate) struct Teller<'t, 'r, 'c> {
 
 impl Teller<'_, '_, '_> {
     /// Plays a call, and prints the line that it has for a tool.
-    pub(crate) fn print_call(&mut self, on: On, call: Call) -> Result<On, AllocError> {
-        play_call(self.out, on, self.radio, self.card, &[], call)
+    pub(crate) fn print_call(&mut self, on: &mut On, call: Call) -> Result<(), AllocError> {
+        carry_out(self.out, on, self.radio, self.card, &[], call)
     }
 
     /// The files that the card has now, and what they say.
