@@ -1,3 +1,4 @@
+use bounded::Bounded;
 use entry_list::Listed;
 use names::{Network, Networks, technologies};
 use plmn::{Code, TechnologySet};
@@ -7,10 +8,12 @@ fn is_hole(entry: &Listed) -> bool {
     entry.code == Code::EMPTY
 }
 
-/// The codes of the entries that are no holes, or `none`.
+/// The codes of the entries that are no holes, or `none`. A list on a card has at most eighty.
 pub(crate) fn write_codes(out: &mut String, entries: &[Listed]) -> Result<(), AllocError> {
-    let heap = *out.allocator();
-    let codes: Vec<Code> = entries.iter().map(|entry| entry.code).collect(heap)?;
+    let mut codes = Bounded::<Code, 80>::new(Code::EMPTY);
+    for entry in entries {
+        codes.push(entry.code);
+    }
     write!(out, "{}", Networks(codes.as_slice()))
 }
 

@@ -1,12 +1,19 @@
 use super::teller::Teller;
 use board::{Board, file_numbers};
+use bounded::Bounded;
 use card_words::{describe_card, describe_subscriber};
 use phrases::{AnswerWords, RefusalWords, RowWords, StateWords};
+use plmn::Row;
 use refusal::Refusal;
 use selector::On;
 use statements::Call;
 use states::Mode;
 use std::alloc::{AllocError, Global};
+
+const NO_ROW: RowWords = RowWords {
+    place: 0,
+    row: Row::NONE,
+};
 
 /// The one line of a scenario whose settings are refused.
 pub fn tell_settings(out: &mut String) -> Result<(), AllocError> {
@@ -29,7 +36,7 @@ impl Teller<'_, '_, '_> {
             Ok(count) => {
                 let words = if count == 1 { "row" } else { "rows" };
                 writeln!(self.out, "{count} {words} heard")?;
-                for (place, row) in self.rows()?.iter().enumerate() {
+                for (place, row) in self.rows().as_slice().iter().enumerate() {
                     writeln!(self.out, "  {}", RowWords { place, row: *row })?;
                 }
                 Ok(())
@@ -74,14 +81,14 @@ impl Teller<'_, '_, '_> {
 
     /// The rows of the sky now that were tried.
     fn tell_marks(&mut self) -> Result<(), AllocError> {
-        let mut tried = Vec::new(self.heap);
-        for (place, row) in self.rows()?.iter().enumerate() {
+        let mut tried = Bounded::<RowWords, 20>::new(NO_ROW);
+        for (place, row) in self.rows().as_slice().iter().enumerate() {
             if self.radio.is_tried(place).unwrap_or(false) {
-                tried.push(RowWords { place, row: *row })?;
+                tried.push(RowWords { place, row: *row });
             }
         }
         write!(self.out, "marks:")?;
-        if tried.is_empty() {
+        if tried.as_slice().is_empty() {
             write!(self.out, " none")?;
         }
         for found in tried.as_slice() {

@@ -1,11 +1,19 @@
 use super::teller::Teller;
 use board::preferences_now;
+use bounded::Bounded;
+use causes::Heard;
 use order::Preferences;
 use phrases::{RunHead, StateWords};
-use plmn::Area;
+use plmn::{Area, Row};
+use radio::Answer;
 use run_words::{Account, describe_run};
 use states::RunAnswer;
 use std::alloc::AllocError;
+
+const NOT_HEARD: Heard = Heard {
+    row: Row::NONE,
+    answer: Answer::Silence,
+};
 
 /// What a run depends on, as it was when the run began.
 #[derive(Clone, Copy)]
@@ -44,10 +52,10 @@ impl Teller<'_, '_, '_> {
         let Some(preferences) = &start.preferences else {
             return Ok(());
         };
-        let rows = self.rows()?;
-        let mut heard = Vec::new(self.heap);
+        let rows = self.rows();
+        let mut heard = Bounded::<Heard, 20>::new(NOT_HEARD);
         for place in places {
-            heard.push(self.heard_at(usize::from(*place)))?;
+            heard.push(self.heard_at(usize::from(*place)));
         }
         let equivalents = self.on.equivalents();
         let account = Account {

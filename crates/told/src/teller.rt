@@ -1,8 +1,9 @@
-use board::rows_now;
+use bounded::Bounded;
 use causes::Heard;
 use packed_card::PackedCard;
 use phrases::RefusalWords;
 use plmn::{Row, TechnologySet};
+use radio::Finder;
 use refusal::Refusal;
 use selector::On;
 use std::alloc::{AllocError, Global};
@@ -25,9 +26,15 @@ impl Teller<'_, '_, '_> {
         writeln!(self.out, "{}", RefusalWords(refusal))
     }
 
-    /// The rows of the sky now.
-    pub(crate) fn rows(&mut self) -> Result<Vec<Row>, AllocError> {
-        rows_now(self.heap, self.radio)
+    /// The rows of the sky now, of which there are twenty at most.
+    pub(crate) fn rows(&mut self) -> Bounded<Row, 20> {
+        let mut rows = Bounded::new(Row::NONE);
+        for place in 0..20 {
+            if let Ok(row) = self.radio.row(place) {
+                rows.push(row);
+            }
+        }
+        rows
     }
 
     /// What was heard at a place that was tried: its network answers the same again.
