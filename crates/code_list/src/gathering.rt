@@ -39,7 +39,7 @@ impl CodeList {
         ensures codes { codes_in self.new ≡ codes_in self.old ++ code ∷ [] }
         ensures count { length (codes_in self.new) ≡ length (codes_in self.old) + 1 }
     {
-        self.held.push(code);
+        self.add(code);
     }
 
     /// One code more, behind the others; an eighty-first is left out.

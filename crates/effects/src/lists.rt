@@ -57,10 +57,16 @@ impl Lists {
     pub fn hear_all(self, home: &[Code], heard: &[Heard]) -> Lists
         ensures { lists_of result ≡ fold (affected home.now) (lists_of self) heard.now }
     {
-        let mut lists = self;
-        for h in heard {
-            lists.hear(home, *h);
-        }
-        lists
+        hear_each(self, home, heard)
     }
+}
+
+fn hear_each(lists: Lists, home: &[Code], heard: &[Heard]) -> Lists
+    ensures { lists_of result ≡ fold (affected home.now) (lists_of lists) heard.now }
+{
+    let mut after = lists;
+    for h in heard {
+        after.hear(home, *h);
+    }
+    after
 }

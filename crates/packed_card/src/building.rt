@@ -75,12 +75,20 @@ impl GoodEntries {
     }
 }
 
+/// The entries of a directory that count.
+fn first_twelve(directory: &[Entry]) -> &[Entry]
+    ensures value { result.now ≡ take 12 directory.now }
+    ensures small { length result.now ≤ 12 }
+{
+    &directory[..directory.len().min(12)]
+}
+
 /// The good ones of a directory's first twelve entries, over an image of this size.
 pub fn good_entries(directory: &[Entry], size: usize) -> GoodEntries
     ensures { listedIn result ≡ goodsOf size directory.now }
 {
     let mut good = GoodEntries::none();
-    for e in &directory[..directory.len().min(12)] {
+    for e in first_twelve(directory) {
         good.admit(*e, size);
     }
     good

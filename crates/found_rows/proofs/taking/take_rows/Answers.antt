@@ -19,13 +19,13 @@ loop-place-preserved g c =
     let inside : i < length cells = omega (arith, c.loop-place-test.true, c.rows-count.ensures.value) in
     let start = c.rows-count.ensures.air in
     let now = c.loop-place.invariant.0 in
-    let row : c.row_at.result ≡ (at (heard_sky cells) i).row = c.row_at.ensures.value ∙ ap (λ (a : Air). (at (heard_sky a.here) i).row) now in
+    let row : c.take_row.result ≡ (at (heard_sky cells) i).row = c.take_row.ensures.value ∙ ap (λ (a : Air). (at (heard_sky a.here) i).row) now in
     let size : length (held c.loop-place.held) ≡ i = ap length c.loop-place.invariant.1 ∙ (length-map (take i cells) row_in ∙ length-take-le i cells (omega arith)) in
     let few : length (held c.loop-place.held) < 20 = omega (arith, size, c.loop-place-test.true, c.rows-count.ensures.small) in
     let n : i + 1 ≡ suc i = omega arith in (
-      c.row_at.ensures.air ∙ now,
+      c.take_row.ensures.air ∙ now,
       c.push.ensures.room few
-          ∙ (ap (λ (rs : List Row). rs ++ c.row_at.result ∷ []) c.loop-place.invariant.1
+          ∙ (ap (λ (rs : List Row). rs ++ c.take_row.result ∷ []) c.loop-place.invariant.1
           ∙ (ap (λ (r : Row). map row_in (take i cells) ++ r ∷ []) row
           ∙ (sym (one_more cells i inside) ∙ ap (λ (k : ℕ). map row_in (take k cells)) (sym n)))),
     )
